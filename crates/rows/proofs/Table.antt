@@ -1,0 +1,118 @@
+-- The laws of a table of rows of bytes, over the width and what a row is read as. Assumes nothing.
+use mathlib.Core.Path.{_≡_, refl, sym, ap, ap₂, _∙_}
+use mathlib.Core.List.{List, [], _∷_, _++_, append-assoc, append-nil, map}
+use Prim.Native.Nat.{ℕ, zero, suc, _+_, _*_, _≤_, _<_}
+use native.Mathlib.Nat.{suc-mul, zero-mul, zero-add, add-comm, add-assoc, add-zero, add-mul, add-suc, suc-add, not-suc-le-zero, le-of-suc-le-suc}
+use native.Mathlib.Omega.{arith}
+use lib.ListN.{length, take, drop, getD, set, length-append, length-take, length-drop, take-append-drop}
+use lib.Seq.{take-add, drop-drop, take-at, drop-at, length-take-le, getD-set-same, getD-set-other}
+use Rattle.rows.specs.Number.{stored, rowsOf, joined}
+use Rattle.rows.proofs.Laws.{stored-add, stored-none, length-stored}
+
+-- a store past the first w bytes leaves them, and is a store in the rest
+take-stored : (w k : ℕ) (bs t : List ℕ) → w ≤ length t → take w (stored (w + k) bs t) ≡ take w t
+unfolding stored
+take-stored w k bs t h =
+    rw (take-add w k t, append-assoc) (take-at (take w t) (take k (drop w t) ++ (bs ++ drop (w + k + length bs) t)) w (length-take-le w t h))
+
+drop-stored : (w k : ℕ) (bs t : List ℕ) → w ≤ length t → drop w (stored (w + k) bs t) ≡ stored k bs (drop w t)
+unfolding stored
+drop-stored w k bs t h =
+    rw (take-add w k t, append-assoc)
+    (drop-at (take w t) (take k (drop w t) ++ (bs ++ drop (w + k + length bs) t)) w (length-take-le w t h)
+    ∙ rw (drop-drop, add-assoc))
+
+take-first : (w : ℕ) (bs t : List ℕ) → length bs ≡ w → take w (stored 0 bs t) ≡ bs
+unfolding stored
+take-first w bs t e = take-at bs (drop (0 + length bs) t) w e
+
+drop-first : (w : ℕ) (bs t : List ℕ) → length bs ≡ w → drop w (stored 0 bs t) ≡ drop w t
+unfolding stored
+drop-first w bs t e = drop-at bs (drop (0 + length bs) t) w e ∙ rw (e, zero-add)
+
+-- the start of the next row
+next : (i w : ℕ) → suc i * w ≡ w + i * w
+next i w = suc-mul i w ∙ add-comm (i * w) w
+
+module _ {ℓ} {A : Type ℓ} (w : ℕ) (f : List ℕ → A) where
+  pub length-rows : (n : ℕ) (t : List ℕ) → length (rowsOf w f n t) ≡ n
+  unfolding rowsOf
+  length-rows zero t = refl
+  length-rows (suc n) t = ap suc (length-rows n (drop w t))
+
+  -- a row of the table
+  pub row-at : (n : ℕ) (t : List ℕ) (i : ℕ) (d : A) → i < n → getD (rowsOf w f n t) i d ≡ f (take w (drop (i * w) t))
+  unfolding rowsOf
+  row-at zero t i d h = absurd (not-suc-le-zero h)
+  row-at (suc n) t zero d h = rw zero-mul
+  row-at (suc n) t (suc i) d h =
+      row-at n (drop w t) i d (le-of-suc-le-suc h) ∙ rw (drop-drop, next)
+
+  -- a row stored over another
+  pub rows-stored : (n : ℕ) (t bs : List ℕ) (i : ℕ) → i < n → length bs ≡ w → n * w ≤ length t
+      → rowsOf w f n (stored (i * w) bs t) ≡ set (rowsOf w f n t) i (f bs)
+  unfolding rowsOf
+  rows-stored zero t bs i h e l = absurd (not-suc-le-zero h)
+  rows-stored (suc n) t bs zero h e l = rw (zero-mul, take-first w bs t e, drop-first w bs t e)
+  rows-stored (suc n) t bs (suc i) h e l =
+      let lw : w ≤ length t = omega (arith, next n w) in
+      let ln : n * w ≤ length (drop w t) = simp length-drop (omega (arith, next n w)) in
+      rw (next i w, take-stored w (i * w) bs t lw, drop-stored w (i * w) bs t lw, rows-stored n (drop w t) bs i (le-of-suc-le-suc h) e ln)
+
+  -- a row stored after the last
+  pub rows-more : (n : ℕ) (t bs : List ℕ) → length bs ≡ w → n * w ≤ length t
+      → rowsOf w f (suc n) (stored (n * w) bs t) ≡ rowsOf w f n t ++ (f bs ∷ [])
+  unfolding rowsOf
+  rows-more zero t bs e l = rw (zero-mul, take-first w bs t e)
+  rows-more (suc n) t bs e l =
+      let lw : w ≤ length t = omega (arith, next n w) in
+      let ln : n * w ≤ length (drop w t) = simp length-drop (omega (arith, next n w)) in
+      ap₂ (λ (x : A) (y : List A). x ∷ y) (rw (next n w, take-stored w (n * w) bs t lw))
+      (ap (rowsOf w f (suc n)) (rw (next n w, drop-stored w (n * w) bs t lw)) ∙ rows-more n (drop w t) bs e ln)
+
+-- after a row is stored: the row itself, and any other
+module _ {ℓ} {A : Type ℓ} (w : ℕ) (f : List ℕ → A) (n : ℕ) (t bs : List ℕ) (j : ℕ) (h : j < n) (e : length bs ≡ w) (l : n * w ≤ length t) (d : A) where
+  pub row-same : getD (rowsOf w f n (stored (j * w) bs t)) j d ≡ f bs
+  row-same =
+      let low : j < length (rowsOf w f n t) = rw length-rows h in
+      rw (rows-stored w f n t bs j h e l) (getD-set-same (rowsOf w f n t) j (f bs) d low)
+
+  pub row-other : (i : ℕ) → (i ≡ j → ⊥) → getD (rowsOf w f n (stored (j * w) bs t)) i d ≡ getD (rowsOf w f n t) i d
+  row-other i ne = rw (rows-stored w f n t bs j h e l) (getD-set-other (rowsOf w f n t) j i (f bs) d ne)
+
+-- a store past the rows changes none of them
+pub rows-kept {ℓ} : {A : Type ℓ} (w : ℕ) (f : List ℕ → A) (n : ℕ) (t bs : List ℕ) (k : ℕ) → n * w ≤ length t
+    → rowsOf w f n (stored (n * w + k) bs t) ≡ rowsOf w f n t
+unfolding rowsOf
+rows-kept w f zero t bs k l = refl
+rows-kept w f (suc n) t bs k l =
+    let lw : w ≤ length t = omega (arith, next n w) in
+    let ln : n * w ≤ length (drop w t) = simp length-drop (omega (arith, next n w)) in
+    rw (next n w, add-assoc w (n * w) k, take-stored w (n * w + k) bs t lw, drop-stored w (n * w + k) bs t lw, rows-kept w f n (drop w t) bs k ln)
+
+-- every row has w bytes
+abbrev pub Wide : ℕ → List (List ℕ) → Type 0
+Wide w [] = Unit {0}
+Wide w (r ∷ rs) = (length r ≡ w) × Wide w rs
+
+pub length-joined : (w : ℕ) (rs : List (List ℕ)) → Wide w rs → length (joined rs) ≡ length rs * w
+unfolding joined
+length-joined w [] h = sym (zero-mul w)
+length-joined w (r ∷ rs) h = rw (length-append, h .0, length-joined w rs (h .1), suc-mul) (omega arith)
+
+-- rows stored after the last
+pub rows-append {ℓ} : {A : Type ℓ} (w : ℕ) (f : List ℕ → A) (rs : List (List ℕ)) (n : ℕ) (t : List ℕ) → Wide w rs → (n + length rs) * w ≤ length t
+    → rowsOf w f (n + length rs) (stored (n * w) (joined rs) t) ≡ rowsOf w f n t ++ map f rs
+unfolding joined
+rows-append w f [] n t h l = rw (add-zero, stored-none (n * w) t) (sym (append-nil (rowsOf w f n t)))
+rows-append w f (r ∷ rs) n t h l =
+    let more : (n + suc (length rs)) * w ≡ n * w + (w + length rs * w) = rw (add-mul, next) refl in
+    let one : stored (suc n * w) (joined rs) (stored (n * w) r t) ≡ stored (n * w) (r ++ joined rs) t =
+    stored-add (n * w) r (joined rs) t (suc n * w) (suc-mul n w ∙ ap (λ (x : ℕ). n * w + x) (sym (h .0)))
+    (rw (length-joined w rs (h .1)) (omega (arith, suc-mul n w, more))) in
+    let fit : n * w + length r ≤ length t = omega (arith, h .0, more) in
+    let room : (suc n + length rs) * w ≤ length (stored (n * w) r t) = rw (length-stored (n * w) r t fit) (omega (arith, l, ap (λ (x : ℕ). x * w) (add-suc n (length rs) ∙ sym (suc-add n (length rs))))) in
+    ap₂ (rowsOf w f) (add-suc n (length rs) ∙ sym (suc-add n (length rs))) (sym one)
+    ∙ rows-append w f rs (suc n) (stored (n * w) r t) (h .1) room
+    ∙ ap (λ (x : List _). x ++ map f rs) (rows-more w f n t r (h .0) (omega (arith, more)))
+    ∙ append-assoc (rowsOf w f n t) (f r ∷ []) (map f rs)

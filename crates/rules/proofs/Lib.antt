@@ -1,0 +1,14 @@
+pub mod ListLaws
+pub mod CoverLaws
+pub mod DeriveLaws
+pub mod OpensLaws
+pub mod LayerLaws
+pub mod RuleLaws
+pub mod VertexLaws
+pub mod LockLaws
+pub mod RevokeLaws
+pub mod LetInLaws
+pub mod GrantLaws
+pub mod InsertLaws
+pub mod SoundLaws
+pub mod ChainLaws

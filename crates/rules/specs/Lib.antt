@@ -1,0 +1,14 @@
+pub mod Lists
+pub mod Layer
+pub mod Book
+pub mod Derivation
+pub mod Holders
+pub mod Sound
+pub mod Requests
+pub mod Open
+pub mod Bytes
+pub mod Refusals
+pub mod Calls
+pub mod Runs
+pub mod Host
+pub mod Numbers
