@@ -1,13 +1,14 @@
 -- Open: the chain of token rows from the user's own vertex to the target, found by a walk back from the target. Document 01, "Open u, r".
 -- Assumes nothing.
-use Prim.Native.Nat.{ℕ, zero, suc}
+use Prim.Native.Nat.{ℕ, zero, suc, _<_}
+use mathlib.Core.Path.{_≡_}
 use mathlib.Core.Bool.{Bool, true, false, _&&_, not, cond}
 use mathlib.Core.List.{List, [], _∷_, _++_}
 use lib.Dec.{eqb}
-use lib.ListN.{getD}
+use lib.ListN.{length, getD}
 use Rattle.sets.specs.Sets.{has, single, size}
 use Rattle.rules.specs.Lists.{first}
-use Rattle.rules.specs.Layer.{Layer, token, setOf}
+use Rattle.rules.specs.Layer.{Layer, Live, token, setOf}
 use Rattle.rules.specs.declared.Token.{Token}
 use Rattle.rules.specs.Book.{Book, resource, hasOuter}
 
@@ -39,3 +40,19 @@ innerChain b u r =
 
 unfoldable pub outerChain : Book → ℕ → ℕ → List ℕ
 outerChain b u r = cond (hasOuter (resource b r)) (chain (b .outer) u (resource b r .outer)) []
+
+-- ---- what such rows must be, whichever way they are found
+
+-- token rows that lead, one after the other, from the user's own key to the derivation key of v (or its one key, in the outer layer)
+pub data Leads (L : Layer) (u : ℕ) : List ℕ → ℕ → Type 0 where
+  -- "the own vertex gives no rows"
+  starts : {v : ℕ} → Live L v → setOf L v ≡ single u → Leads L u [] v
+  goes : {rows : List ℕ} {i v : ℕ} → Leads L u rows (tokenAt L i .from) → i < length (L .tokens) → tokenAt L i .kind ≡ 0 → tokenAt L i .to ≡ v
+      → Leads L u (rows ++ (i ∷ [])) v
+
+-- row i is a "kind 1 row" from the user's own vertex to the access key of v
+pub record AccessRow (L : Layer) (u v i : ℕ) : Type 0 where
+  pub there : i < length (L .tokens)
+  pub kind : tokenAt L i .kind ≡ 1
+  pub to : tokenAt L i .to ≡ v
+  pub from : setOf L (tokenAt L i .from) ≡ single u
