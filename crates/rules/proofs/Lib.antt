@@ -13,3 +13,6 @@ pub mod InsertLaws
 pub mod SoundLaws
 pub mod ChainLaws
 pub mod KnowsLaws
+pub mod WalkLaws
+pub mod ViewLaws
+pub mod ShownLaws

@@ -3,6 +3,7 @@
 use Prim.Native.Nat.{ℕ, zero, suc, _<_}
 use mathlib.Core.Path.{_≡_}
 use mathlib.Core.Bool.{Bool, true, false, _&&_, not, cond}
+use mathlib.Core.Logic.{_⊎_}
 use mathlib.Core.List.{List, [], _∷_, _++_}
 use lib.Dec.{eqb}
 use lib.ListN.{length, getD}
@@ -10,7 +11,7 @@ use Rattle.sets.specs.Sets.{has, single, size}
 use Rattle.rules.specs.Lists.{first}
 use Rattle.rules.specs.Layer.{Layer, Live, token, setOf}
 use Rattle.rules.specs.declared.Token.{Token}
-use Rattle.rules.specs.Book.{Book, resource, hasOuter}
+use Rattle.rules.specs.Book.{Book, none, resource, hasOuter}
 
 unfoldable pub tokenAt : Layer → ℕ → Token
 tokenAt L i = getD (L .tokens) i (token 0 0 0)
@@ -56,3 +57,11 @@ pub record AccessRow (L : Layer) (u v i : ℕ) : Type 0 where
   pub kind : tokenAt L i .kind ≡ 1
   pub to : tokenAt L i .to ≡ v
   pub from : setOf L (tokenAt L i .from) ≡ single u
+
+-- the rows shown for the inner layer: they lead to the derivation key, or they are one kind 1 row
+abbrev pub InnerShown : Layer → ℕ → ℕ → List ℕ → Type 0
+InnerShown L u v rows = Leads L u rows v ⊎ ((i : ℕ) × (rows ≡ i ∷ []) × AccessRow L u v i)
+
+-- the rows shown for the outer layer: none where there is no outer key, or they lead to it
+abbrev pub OuterShown : Layer → ℕ → ℕ → List ℕ → Type 0
+OuterShown L u v rows = ((v ≡ none) × (rows ≡ [])) ⊎ Leads L u rows v

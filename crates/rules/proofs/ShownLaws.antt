@@ -1,0 +1,93 @@
+-- What Open shows in a sound book to a user who opens the resource: rows that are a derivation of the two keys, and how many.
+-- Assumes nothing.
+use Prim.Native.Nat.{ℕ, _<_}
+use mathlib.Core.Path.{_≡_, refl, sym, ap, _∙_}
+use mathlib.Core.Bool.{Bool, true, false, not, cond}
+use mathlib.Core.Logic.{_⊎_, inl, inr}
+use mathlib.Core.List.{List, [], _∷_}
+use native.Mathlib.Omega.{arith}
+use lib.Dec.{eqb}
+use lib.ListN.{length}
+use borrow.Author.Tests.{eqb-true, eqb-false, not-true, not-false}
+use Rattle.sets.specs.Sets.{has, size}
+use Rattle.rules.specs.Layer.{Layer, setOf}
+use Rattle.rules.specs.Book.{Book, resource, hasOuter, none}
+use Rattle.rules.specs.Holders.{holders}
+use Rattle.rules.specs.Sound.{sound}
+use Rattle.rules.specs.Derivation.{main, access, Knows, hash, Opens}
+use Rattle.rules.specs.Open.{chain, direct, innerChain, outerChain, Leads, AccessRow, InnerShown, OuterShown}
+use Rattle.sets.proofs.Laws.{has-size}
+use Rattle.rules.proofs.OpensLaws.{locked-cases, opens-list}
+use Rattle.rules.proofs.SoundLaws.{sound-kept, sound-locked}
+use Rattle.rules.proofs.KnowsLaws.{inner-access, outer-main}
+use Rattle.rules.proofs.ChainLaws.{leads-knows, row-knows, chain-leads, chain-short, direct-row}
+
+-- ---- such rows are a derivation
+
+pub inner-derives : {L : Layer} {u v : ℕ} {rows : List ℕ} → InnerShown L u v rows → Knows L u (access v)
+inner-derives (inl c) = hash (leads-knows c)
+inner-derives (inr (i, e, r)) = row-knows r
+
+pub outer-derives : {L : Layer} {u v : ℕ} {rows : List ℕ} → OuterShown L u v rows → (v ≡ none → ⊥) → Knows L u (main v)
+outer-derives (inl (e, q)) n = absurd (n e)
+outer-derives (inr c) n = leads-knows c
+
+module _ (b : Book) (h : sound b ≡ true) (u r : ℕ) (o : Opens b u r) where
+  abbrev v : ℕ
+  v = resource b r .inner
+
+  abbrev w : ℕ
+  w = resource b r .outer
+
+  -- ---- the inner chain
+
+  pub inner-shown : InnerShown (b .inner) u (resource b r .inner) (innerChain b u r)
+  unfolding innerChain
+  inner-shown = go (has (setOf (b .inner) v) u) refl
+    where
+      go : (c : Bool) → has (setOf (b .inner) v) u ≡ c → InnerShown (b .inner) u v (cond c (chain (b .inner) u v) (direct (b .inner) u v ∷ []))
+      go true e = inl (chain-leads (sound-kept b h .inner) u v e)
+      go false e = inr (direct (b .inner) u v, refl, direct-row (sound-kept b h .inner) u v (inner-access b h u v .0 (o .bel)) e)
+
+  pub inner-bound : (length (innerChain b u r) < size (setOf (b .inner) (resource b r .inner))) ⊎ (length (innerChain b u r) ≡ 1)
+  unfolding innerChain
+  inner-bound = go (has (setOf (b .inner) v) u) refl
+    where
+      go : (c : Bool) → has (setOf (b .inner) v) u ≡ c
+          → (length (cond c (chain (b .inner) u v) (direct (b .inner) u v ∷ [])) < size (setOf (b .inner) v))
+          ⊎ (length (cond c (chain (b .inner) u v) (direct (b .inner) u v ∷ [])) ≡ 1)
+      go true e = inl (chain-short (sound-kept b h .inner) u v e)
+      go false e = inr refl
+
+  -- ---- the outer chain
+
+  outer-there : hasOuter (resource b r) ≡ true → w ≡ none → ⊥
+  unfolding hasOuter
+  outer-there e = eqb-false w none (not-true (eqb w none) e)
+
+  no-outer : hasOuter (resource b r) ≡ false → w ≡ none
+  unfolding hasOuter
+  no-outer e = eqb-true w none (not-false (eqb w none) e)
+
+  outer-named : hasOuter (resource b r) ≡ true → has (setOf (b .outer) w) u ≡ true
+  outer-named e = outer-main b h u w .0 (o .sel (outer-there e))
+
+  pub outer-shown : OuterShown (b .outer) u (resource b r .outer) (outerChain b u r)
+  unfolding outerChain
+  outer-shown = go (hasOuter (resource b r)) refl
+    where
+      go : (c : Bool) → hasOuter (resource b r) ≡ c → OuterShown (b .outer) u w (cond c (chain (b .outer) u w) [])
+      go true e = inr (chain-leads (sound-kept b h .outer) u w (outer-named e))
+      go false e = inl (no-outer e, refl)
+
+  -- fewer tokens than the list has people
+  pub outer-bound : r < length (b .resources) → length (outerChain b u r) < size (resource b r .list)
+  unfolding outerChain
+  outer-bound l = go (hasOuter (resource b r)) refl (locked-cases b (resource b r) (sound-locked b h r l))
+    where
+      go : (c : Bool) → hasOuter (resource b r) ≡ c
+          → ((w ≡ none) × (holders (b .inner) v ≡ resource b r .list)) ⊎ ((w ≡ none → ⊥) × (setOf (b .outer) w ≡ resource b r .list))
+          → length (cond c (chain (b .outer) u w) []) < size (resource b r .list)
+      go false e s = has-size (resource b r .list) u (opens-list b h r l u .0 o)
+      go true e (inl (z, q)) = absurd (outer-there e z)
+      go true e (inr (n, q)) = rw q at (chain-short (sound-kept b h .outer) u w (outer-named e))
