@@ -1,11 +1,11 @@
 -- The rows of a chain lead from the user's own vertex to the vertex wanted, and are fewer than its set has users; the kind 1 row is there and is the
 -- only one. Of the walk itself only its two steps are used here, and later files use only the laws of this one.
 -- Assumes nothing.
-use Prim.Native.Nat.{ℕ, zero, suc, _+_, _≤_, _<_}
-use mathlib.Core.Path.{_≡_, refl, sym, ap, _∙_}
-use mathlib.Core.Bool.{Bool, true, false, _&&_, not, true≢false}
-use mathlib.Core.Logic.{_⊎_, inl, inr, _≢_}
-use mathlib.Core.List.{List, [], _∷_, _++_, List·Memᴰ}
+use Prim.Native.Nat.{ℕ, zero, suc, _≤_, _<_}
+use mathlib.Core.Path.{_≡_, sym, ap, _∙_}
+use mathlib.Core.Bool.{true, false, not, true≢false}
+use mathlib.Core.Logic.{_⊎_, inl, inr}
+use mathlib.Core.List.{List, [], _∷_, List·Memᴰ}
 use native.Mathlib.Nat.{le-refl}
 use native.Mathlib.Decide.{ℕ-discrete}
 use native.Mathlib.Omega.{arith}
@@ -13,19 +13,18 @@ use lib.Dec.{eqb}
 use lib.ListN.{length, getD, length-append}
 use borrow.Author.Tests.{eqb-true, eq-eqb}
 use Rattle.sets.specs.Sets.{has, single, size}
-use Rattle.rules.specs.Lists.{first}
 use Rattle.rules.specs.Layer.{Layer, Live, token, setOf}
 use Rattle.rules.specs.declared.Token.{Token}
 use Rattle.rules.specs.Holders.{byToken, holders}
 use Rattle.rules.specs.Sound.{unequal, otherRow}
 use Rattle.rules.specs.Derivation.{main, access, Knows, own, step, given}
 use Rattle.rules.specs.Open.{tokenAt, back, chain, direct, Leads, starts, goes, AccessRow}
-use Rattle.sets.proofs.Laws.{both, has-size, has-own, has-union-cases}
+use Rattle.sets.proofs.Laws.{has-size, has-own, has-union-cases}
 use Rattle.rules.proofs.ListLaws.{getD-mem, pairwise-one}
 use Rattle.rules.proofs.DeriveLaws.{a-vertex}
 use Rattle.rules.proofs.LayerLaws.{Layered}
 use Rattle.rules.proofs.KnowsLaws.{by-token}
-use Rattle.rules.proofs.WalkLaws.{first-enters, BackRow, back-row, back-falls, chain-own, chain-step}
+use Rattle.rules.proofs.WalkLaws.{first-enters, back-row, back-falls, chain-own, chain-step}
 
 -- ---- what such rows give, in any layer
 

@@ -1,12 +1,12 @@
 -- Who derives which key, over a layer that meets its rules and in a sound book; the two parts of the holders; no chain of tokens comes back.
 -- Assumes nothing.
 use Prim.Native.Nat.{ℕ, _<_}
-use mathlib.Core.Path.{_≡_, refl, sym, ap, _∙_}
+use mathlib.Core.Path.{_≡_, refl, sym, _∙_}
 use mathlib.Core.Bool.{Bool, true, false, true≢false}
 use mathlib.Core.Logic.{_↔_}
 use mathlib.Core.List.{List·Memᴰ}
 use native.Mathlib.Nat.{lt-trans, lt-irrefl}
-use Rattle.sets.specs.Sets.{has, single, within, size}
+use Rattle.sets.specs.Sets.{has, single, size}
 use Rattle.rules.specs.Layer.{Layer, setOf}
 use Rattle.rules.specs.declared.Token.{Token}
 use Rattle.rules.specs.Book.{Book}

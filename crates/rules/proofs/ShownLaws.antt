@@ -1,24 +1,25 @@
 -- What Open shows in a sound book to a user who opens the resource: rows that are a derivation of the two keys, and how many.
 -- Assumes nothing.
-use Prim.Native.Nat.{ℕ, _<_}
-use mathlib.Core.Path.{_≡_, refl, sym, ap, _∙_}
-use mathlib.Core.Bool.{Bool, true, false, not, cond}
+use Prim.Native.Nat.{ℕ, _≤_, _<_}
+use mathlib.Core.Path.{_≡_, refl}
+use mathlib.Core.Bool.{Bool, true, false, cond}
 use mathlib.Core.Logic.{_⊎_, inl, inr}
 use mathlib.Core.List.{List, [], _∷_}
 use native.Mathlib.Omega.{arith}
-use lib.Dec.{eqb}
 use lib.ListN.{length}
-use borrow.Author.Tests.{eqb-true, eqb-false, not-true, not-false}
 use Rattle.sets.specs.Sets.{has, size}
 use Rattle.rules.specs.Layer.{Layer, setOf}
 use Rattle.rules.specs.Book.{Book, resource, hasOuter, none}
 use Rattle.rules.specs.Holders.{holders}
-use Rattle.rules.specs.Sound.{sound}
+use Rattle.rules.specs.Sound.{maxUsers, sound}
 use Rattle.rules.specs.Derivation.{main, access, Knows, hash, Opens}
-use Rattle.rules.specs.Open.{chain, direct, innerChain, outerChain, Leads, AccessRow, InnerShown, OuterShown}
-use Rattle.sets.proofs.Laws.{has-size}
+use Rattle.rules.specs.Open.{chain, direct, innerChain, outerChain, InnerShown, OuterShown}
+use Rattle.sets.proofs.Laws.{has-size, size-below}
+use Rattle.rules.proofs.ListLaws.{getD-mem}
+use Rattle.rules.proofs.RevokeLaws.{member}
 use Rattle.rules.proofs.OpensLaws.{locked-cases, opens-list}
-use Rattle.rules.proofs.SoundLaws.{sound-kept, sound-locked}
+use Rattle.rules.proofs.SoundLaws.{sound-counts, sound-kept, sound-locked}
+use Rattle.rules.proofs.ViewLaws.{outer-there, no-outer}
 use Rattle.rules.proofs.KnowsLaws.{inner-access, outer-main}
 use Rattle.rules.proofs.ChainLaws.{leads-knows, row-knows, chain-leads, chain-short, direct-row}
 
@@ -61,16 +62,8 @@ module _ (b : Book) (h : sound b ≡ true) (u r : ℕ) (o : Opens b u r) where
 
   -- ---- the outer chain
 
-  outer-there : hasOuter (resource b r) ≡ true → w ≡ none → ⊥
-  unfolding hasOuter
-  outer-there e = eqb-false w none (not-true (eqb w none) e)
-
-  no-outer : hasOuter (resource b r) ≡ false → w ≡ none
-  unfolding hasOuter
-  no-outer e = eqb-true w none (not-false (eqb w none) e)
-
   outer-named : hasOuter (resource b r) ≡ true → has (setOf (b .outer) w) u ≡ true
-  outer-named e = outer-main b h u w .0 (o .sel (outer-there e))
+  outer-named e = outer-main b h u w .0 (o .sel (outer-there (resource b r) e))
 
   pub outer-shown : OuterShown (b .outer) u (resource b r .outer) (outerChain b u r)
   unfolding outerChain
@@ -78,7 +71,7 @@ module _ (b : Book) (h : sound b ≡ true) (u r : ℕ) (o : Opens b u r) where
     where
       go : (c : Bool) → hasOuter (resource b r) ≡ c → OuterShown (b .outer) u w (cond c (chain (b .outer) u w) [])
       go true e = inr (chain-leads (sound-kept b h .outer) u w (outer-named e))
-      go false e = inl (no-outer e, refl)
+      go false e = inl (no-outer (resource b r) e, refl)
 
   -- fewer tokens than the list has people
   pub outer-bound : r < length (b .resources) → length (outerChain b u r) < size (resource b r .list)
@@ -89,5 +82,24 @@ module _ (b : Book) (h : sound b ≡ true) (u r : ℕ) (o : Opens b u r) where
           → ((w ≡ none) × (holders (b .inner) v ≡ resource b r .list)) ⊎ ((w ≡ none → ⊥) × (setOf (b .outer) w ≡ resource b r .list))
           → length (cond c (chain (b .outer) u w) []) < size (resource b r .list)
       go false e s = has-size (resource b r .list) u (opens-list b h r l u .0 o)
-      go true e (inl (z, q)) = absurd (outer-there e z)
+      go true e (inl (z, q)) = absurd (outer-there (resource b r) e z)
       go true e (inr (n, q)) = rw q at (chain-short (sound-kept b h .outer) u w (outer-named e))
+
+  -- ---- neither has as many tokens as there can be users
+
+  pub inner-few : r < length (b .resources) → length (innerChain b u r) < maxUsers
+  unfolding setOf
+  inner-few l = go inner-bound
+    where
+      few : size (setOf (b .inner) v) ≤ b .users
+      few =
+          size-below (b .users) (setOf (b .inner) v)
+          (sound-kept b h .inner .sets< (setOf (b .inner) v) (getD-mem (b .inner .sets) v 0 (sound-kept b h .inner< (resource b r) (member b r l))))
+
+      go : (length (innerChain b u r) < size (setOf (b .inner) v)) ⊎ (length (innerChain b u r) ≡ 1) → length (innerChain b u r) < maxUsers
+      go (inl k) = omega (arith, few, sound-counts b h .users≤)
+      go (inr e) = omega arith
+
+  pub outer-few : r < length (b .resources) → length (outerChain b u r) < maxUsers
+  outer-few l =
+      omega (arith, outer-bound l, size-below (b .users) (resource b r .list) (sound-kept b h .list< (resource b r) (member b r l)), sound-counts b h .users≤)

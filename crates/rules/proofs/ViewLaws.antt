@@ -1,24 +1,32 @@
 -- The view says which of the two keys the user derives; in a sound book it is settled by the mode, the list and the holders.
 -- Assumes nothing.
 use Prim.Native.Nat.{ℕ, _<_}
-use mathlib.Core.Path.{_≡_, refl, sym, ap, ap₂, _∙_}
-use mathlib.Core.Bool.{Bool, true, false, _&&_, _||_, not, cond, or-true}
+use mathlib.Core.Path.{_≡_, refl, ap}
+use mathlib.Core.Bool.{Bool, true, false, _&&_, _||_, not, cond}
 use mathlib.Core.Logic.{_⊎_, inl, inr, _↔_}
-use native.Mathlib.Omega.{arith}
 use lib.Dec.{eqb}
 use lib.ListN.{length}
 use borrow.Author.Tests.{eqb-true, eqb-false, not-true, not-false}
 use Rattle.sets.specs.Sets.{has}
 use Rattle.rules.specs.Layer.{setOf}
 use Rattle.rules.specs.declared.View.{View}
-use Rattle.rules.specs.declared.View.the-variants.{Open, SelLocked, BelLocked, Locked}
-use Rattle.rules.specs.Book.{Book, resource, hasOuter, none}
-use Rattle.rules.specs.Holders.{holders, holdersOf, innerKnown, outerKnown, viewBy, view}
+use Rattle.rules.specs.declared.View.the-variants.{Open}
+use Rattle.rules.specs.Book.{Book, Resource, resource, hasOuter, none}
+use Rattle.rules.specs.Holders.{holdersOf, innerKnown, outerKnown, viewBy, view}
 use Rattle.rules.specs.Sound.{sound, locked, lockedFor}
 use Rattle.rules.specs.Derivation.{main, access, Knows, Opens}
 use Rattle.sets.proofs.Laws.{both, either}
 use Rattle.rules.proofs.KnowsLaws.{inner-access, outer-main}
 use Rattle.rules.proofs.SoundLaws.{sound-locked}
+
+-- a resource has an outer key, or the number that stands for none
+pub outer-there : (x : Resource) → hasOuter x ≡ true → x .outer ≡ none → ⊥
+unfolding hasOuter
+outer-there x e = eqb-false (x .outer) none (not-true (eqb (x .outer) none) e)
+
+pub no-outer : (x : Resource) → hasOuter x ≡ false → x .outer ≡ none
+unfolding hasOuter
+no-outer x e = eqb-true (x .outer) none (not-false (eqb (x .outer) none) e)
 
 -- the view is open exactly if both are known
 open-both : (x y : Bool) → viewBy x y ≡ Open → (x ≡ true) × (y ≡ true)
@@ -39,19 +47,20 @@ module _ (b : Book) (h : sound b ≡ true) (u r : ℕ) where
 
   -- "outer known": the outer key is derived, if there is one
   pub outer-known : (outerKnown b u r ≡ true) ↔ ((resource b r .outer ≡ none → ⊥) → Knows (b .outer) u (main (resource b r .outer)))
-  unfolding outerKnown hasOuter
-  outer-known = (λ k n. to n (either (not (not (eqb v none))) (has (setOf (b .outer) v) u) k), λ f. from f (eqb v none) refl)
+  unfolding outerKnown
+  outer-known = (λ k n. to n (either (not (hasOuter x)) (has (setOf (b .outer) (x .outer)) u) k), λ f. from f (hasOuter x) refl)
     where
-      v : ℕ
-      v = resource b r .outer
+      x : Resource
+      x = resource b r
 
-      to : (v ≡ none → ⊥) → (not (not (eqb v none)) ≡ true) ⊎ (has (setOf (b .outer) v) u ≡ true) → Knows (b .outer) u (main v)
-      to n (inl e) = absurd (n (eqb-true v none (not-false (eqb v none) (not-true (not (eqb v none)) e))))
-      to n (inr e) = outer-main b h u v .1 e
+      to : (x .outer ≡ none → ⊥) → (not (hasOuter x) ≡ true) ⊎ (has (setOf (b .outer) (x .outer)) u ≡ true) → Knows (b .outer) u (main (x .outer))
+      to n (inl e) = absurd (n (no-outer x (not-true (hasOuter x) e)))
+      to n (inr e) = outer-main b h u (x .outer) .1 e
 
-      from : ((v ≡ none → ⊥) → Knows (b .outer) u (main v)) → (c : Bool) → eqb v none ≡ c → (not (not c) || has (setOf (b .outer) v) u) ≡ true
-      from f true e = refl
-      from f false e = outer-main b h u v .0 (f (eqb-false v none e))
+      from : ((x .outer ≡ none → ⊥) → Knows (b .outer) u (main (x .outer))) → (c : Bool) → hasOuter x ≡ c
+          → (not c || has (setOf (b .outer) (x .outer)) u) ≡ true
+      from f true e = outer-main b h u (x .outer) .0 (f (outer-there x e))
+      from f false e = refl
 
   -- view 0 is what the keys open
   pub view-open : (view b u r ≡ Open) ↔ Opens b u r

@@ -1,6 +1,6 @@
 -- Searches and the walk back as code meets them: the first row by its index, one step of the walk, and a walk with more steps than needed.
 -- Assumes nothing.
-use Prim.Native.Nat.{ℕ, zero, suc, _+_, _≤_, _<_}
+use Prim.Native.Nat.{ℕ, zero, suc, _≤_, _<_}
 use mathlib.Core.Path.{_≡_, refl, sym, ap, _∙_}
 use mathlib.Core.Bool.{Bool, true, false, _&&_, cond, true≢false}
 use mathlib.Core.Logic.{_⊎_, inl, inr, _≢_}
@@ -11,13 +11,13 @@ use lib.Dec.{eqb}
 use lib.ListN.{length, getD}
 use borrow.Author.Tests.{eqb-true, eqb-false, eq-eqb, ne-eqb}
 use Rattle.sets.specs.Sets.{has, single, size}
-use Rattle.rules.specs.Lists.{first, pairwise}
-use Rattle.rules.specs.Layer.{Layer, Live, token, setOf}
+use Rattle.rules.specs.Lists.{first}
+use Rattle.rules.specs.Layer.{Layer, token, setOf}
 use Rattle.rules.specs.declared.Token.{Token}
 use Rattle.rules.specs.Holders.{into, sources}
 use Rattle.rules.specs.Open.{tokenAt, back, walk, chain}
 use Rattle.sets.proofs.Laws.{both, size-inside, single-of-size, has-size}
-use Rattle.rules.proofs.ListLaws.{getD-mem, first-le, first-at, mem-first, every-mem}
+use Rattle.rules.proofs.ListLaws.{getD-mem, first-le, first-at, mem-first}
 use Rattle.rules.proofs.DeriveLaws.{sources-mem, into-mem, a-vertex}
 use Rattle.rules.proofs.LayerLaws.{Layered}
 
