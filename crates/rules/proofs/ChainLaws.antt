@@ -1,5 +1,5 @@
--- The rows of a chain lead from the user's own vertex to the vertex wanted, and are fewer than its set has users; the kind 1 row is there and is the
--- only one. Of the walk itself only its two steps are used here, and later files use only the laws of this one.
+-- Rows that lead from the user's own vertex to another are a derivation of its key, and fewer than its set has users; the rows of `chain` lead so; and
+-- the kind 1 row is there and is the only one. Later files know of `chain` only that it leads.
 -- Assumes nothing.
 use Prim.Native.Nat.{ℕ, zero, suc, _≤_, _<_}
 use mathlib.Core.Path.{_≡_, sym, ap, _∙_}
@@ -19,7 +19,7 @@ use Rattle.rules.specs.Holders.{byToken, holders}
 use Rattle.rules.specs.Sound.{unequal, otherRow}
 use Rattle.rules.specs.Derivation.{main, access, Knows, own, step, given}
 use Rattle.rules.specs.Open.{tokenAt, back, chain, direct, Leads, starts, goes, AccessRow}
-use Rattle.sets.proofs.Laws.{has-size, has-own, has-union-cases}
+use Rattle.sets.proofs.Laws.{size-single, size-inside, has-size, has-own, has-union-cases}
 use Rattle.rules.proofs.ListLaws.{getD-mem, pairwise-one}
 use Rattle.rules.proofs.DeriveLaws.{a-vertex}
 use Rattle.rules.proofs.LayerLaws.{Layered}
@@ -58,27 +58,31 @@ same-row s t a b c = rw (eq-eqb (s .from) (t .from) a, eq-eqb (s .to) (t .to) b,
 module _ {n : ℕ} {L : Layer} (g : Layered n L) (u : ℕ) where
   -- ---- the chain
 
-  abbrev Good : ℕ → Type 0
-  Good v = Leads L u (chain L u v) v × (length (chain L u v) < size (setOf L v))
-
-  good : (f v : ℕ) → size (setOf L v) ≤ f → has (setOf L v) u ≡ true → Good v
-  good zero v l h = absurd (omega (arith, has-size (setOf L v) u h))
-  good (suc f) v l h = go (λ w. good f w) (ℕ-discrete (setOf L v) (single u))
-    where
-      go : ((w : ℕ) → size (setOf L w) ≤ f → has (setOf L w) u ≡ true → Good w) → Dec (setOf L v ≡ single u) → Good v
-      go ih (yes e) = rw (chain-own g u v e) (starts (a-vertex L v u h) e, has-size (setOf L v) u h)
-      go ih (no n) =
-          let r = back-row g u v h n in
-          let from = tokenAt L (back L u v) .from in
-          let less : size (setOf L from) < size (setOf L v) = back-falls g u r in
-          let (c, s) = ih from (omega arith) (r .names) in
-          rw (chain-step g u v h n) (goes c (r .there) (r .kind) (r .to), omega (arith, length-append (chain L u from) (back L u v ∷ [])))
+  -- rows that lead are short: the sets grow at each
+  pub leads-short : {v : ℕ} {rows : List ℕ} → Leads L u rows v → length rows < size (setOf L v)
+  leads-short (starts l e) = rw e (omega (arith, size-single u))
+  leads-short (goes {rows = rows} {i = i} c l k e) =
+      let t = tokenAt L i in
+      rw (← e) (omega (arith, length-append rows (i ∷ []), leads-short c, size-inside (setOf L (t .from)) (setOf L (t .to)) (g .rises t (token-there L i l) k)))
 
   pub chain-leads : (v : ℕ) → has (setOf L v) u ≡ true → Leads L u (chain L u v) v
-  chain-leads v h = good (size (setOf L v)) v (le-refl (size (setOf L v))) h .0
+  chain-leads v h = go (size (setOf L v)) v (le-refl (size (setOf L v))) h
+    where
+      at : (f v : ℕ) → size (setOf L v) ≤ suc f → has (setOf L v) u ≡ true
+          → ((w : ℕ) → size (setOf L w) ≤ f → has (setOf L w) u ≡ true → Leads L u (chain L u w) w)
+          → Dec (setOf L v ≡ single u) → Leads L u (chain L u v) v
+      at f v l h ih (yes e) = rw (chain-own g u v e) (starts (a-vertex L v u h) e)
+      at f v l h ih (no n) =
+          let r = back-row g u v h n in
+          let less : size (setOf L (tokenAt L (back L u v) .from)) < size (setOf L v) = back-falls g u r in
+          rw (chain-step g u v h n) (goes (ih (tokenAt L (back L u v) .from) (omega arith) (r .names)) (r .there) (r .kind) (r .to))
+
+      go : (f v : ℕ) → size (setOf L v) ≤ f → has (setOf L v) u ≡ true → Leads L u (chain L u v) v
+      go zero v l h = absurd (omega (arith, has-size (setOf L v) u h))
+      go (suc f) v l h = at f v l h (go f) (ℕ-discrete (setOf L v) (single u))
 
   pub chain-short : (v : ℕ) → has (setOf L v) u ≡ true → length (chain L u v) < size (setOf L v)
-  chain-short v h = good (size (setOf L v)) v (le-refl (size (setOf L v))) h .1
+  chain-short v h = leads-short (chain-leads v h)
 
   -- ---- the one kind 1 row
 

@@ -1,7 +1,7 @@
 -- What Open shows in a sound book to a user who opens the resource: rows that are a derivation of the two keys, and how many.
 -- Assumes nothing.
 use Prim.Native.Nat.{ℕ, _≤_, _<_}
-use mathlib.Core.Path.{_≡_, refl}
+use mathlib.Core.Path.{_≡_, refl, ap}
 use mathlib.Core.Bool.{Bool, true, false, cond}
 use mathlib.Core.Logic.{_⊎_, inl, inr}
 use mathlib.Core.List.{List, [], _∷_}
@@ -21,7 +21,7 @@ use Rattle.rules.proofs.OpensLaws.{locked-cases, opens-list}
 use Rattle.rules.proofs.SoundLaws.{sound-counts, sound-kept, sound-locked}
 use Rattle.rules.proofs.ViewLaws.{outer-there, no-outer}
 use Rattle.rules.proofs.KnowsLaws.{inner-access, outer-main}
-use Rattle.rules.proofs.ChainLaws.{leads-knows, row-knows, chain-leads, chain-short, direct-row}
+use Rattle.rules.proofs.ChainLaws.{leads-knows, row-knows, leads-short, chain-leads, direct-row}
 
 -- ---- such rows are a derivation
 
@@ -31,7 +31,7 @@ inner-derives (inr (i, e, r)) = row-knows r
 
 pub outer-derives : {L : Layer} {u v : ℕ} {rows : List ℕ} → OuterShown L u v rows → (v ≡ none → ⊥) → Knows L u (main v)
 outer-derives (inl (e, q)) n = absurd (n e)
-outer-derives (inr c) n = leads-knows c
+outer-derives (inr (m, c)) n = leads-knows c
 
 module _ (b : Book) (h : sound b ≡ true) (u r : ℕ) (o : Opens b u r) where
   abbrev v : ℕ
@@ -50,40 +50,35 @@ module _ (b : Book) (h : sound b ≡ true) (u r : ℕ) (o : Opens b u r) where
       go true e = inl (chain-leads (sound-kept b h .inner) u v e)
       go false e = inr (direct (b .inner) u v, refl, direct-row (sound-kept b h .inner) u v (inner-access b h u v .0 (o .bel)) e)
 
+  -- fewer tokens than the starting set has people, or one
   pub inner-bound : (length (innerChain b u r) < size (setOf (b .inner) (resource b r .inner))) ⊎ (length (innerChain b u r) ≡ 1)
-  unfolding innerChain
-  inner-bound = go (has (setOf (b .inner) v) u) refl
+  inner-bound = go inner-shown
     where
-      go : (c : Bool) → has (setOf (b .inner) v) u ≡ c
-          → (length (cond c (chain (b .inner) u v) (direct (b .inner) u v ∷ [])) < size (setOf (b .inner) v))
-          ⊎ (length (cond c (chain (b .inner) u v) (direct (b .inner) u v ∷ [])) ≡ 1)
-      go true e = inl (chain-short (sound-kept b h .inner) u v e)
-      go false e = inr refl
+      go : InnerShown (b .inner) u v (innerChain b u r) → (length (innerChain b u r) < size (setOf (b .inner) v)) ⊎ (length (innerChain b u r) ≡ 1)
+      go (inl c) = inl (leads-short (sound-kept b h .inner) u c)
+      go (inr (i, e, q)) = inr (ap length e)
 
   -- ---- the outer chain
-
-  outer-named : hasOuter (resource b r) ≡ true → has (setOf (b .outer) w) u ≡ true
-  outer-named e = outer-main b h u w .0 (o .sel (outer-there (resource b r) e))
 
   pub outer-shown : OuterShown (b .outer) u (resource b r .outer) (outerChain b u r)
   unfolding outerChain
   outer-shown = go (hasOuter (resource b r)) refl
     where
       go : (c : Bool) → hasOuter (resource b r) ≡ c → OuterShown (b .outer) u w (cond c (chain (b .outer) u w) [])
-      go true e = inr (chain-leads (sound-kept b h .outer) u w (outer-named e))
+      go true e =
+          let n = outer-there (resource b r) e in inr (n, chain-leads (sound-kept b h .outer) u w (outer-main b h u w .0 (o .sel n)))
       go false e = inl (no-outer (resource b r) e, refl)
 
   -- fewer tokens than the list has people
   pub outer-bound : r < length (b .resources) → length (outerChain b u r) < size (resource b r .list)
-  unfolding outerChain
-  outer-bound l = go (hasOuter (resource b r)) refl (locked-cases b (resource b r) (sound-locked b h r l))
+  outer-bound l = go outer-shown (locked-cases b (resource b r) (sound-locked b h r l))
     where
-      go : (c : Bool) → hasOuter (resource b r) ≡ c
+      go : OuterShown (b .outer) u w (outerChain b u r)
           → ((w ≡ none) × (holders (b .inner) v ≡ resource b r .list)) ⊎ ((w ≡ none → ⊥) × (setOf (b .outer) w ≡ resource b r .list))
-          → length (cond c (chain (b .outer) u w) []) < size (resource b r .list)
-      go false e s = has-size (resource b r .list) u (opens-list b h r l u .0 o)
-      go true e (inl (z, q)) = absurd (outer-there (resource b r) e z)
-      go true e (inr (n, q)) = rw q at (chain-short (sound-kept b h .outer) u w (outer-named e))
+          → length (outerChain b u r) < size (resource b r .list)
+      go (inl (z, e)) s = rw e (has-size (resource b r .list) u (opens-list b h r l u .0 o))
+      go (inr (n, c)) (inl (z, q)) = absurd (n z)
+      go (inr (n, c)) (inr (m, q)) = rw q at (leads-short (sound-kept b h .outer) u c)
 
   -- ---- neither has as many tokens as there can be users
 
