@@ -12,3 +12,7 @@ pub mod GrantLaws
 pub mod InsertLaws
 pub mod SoundLaws
 pub mod ChainLaws
+pub mod KnowsLaws
+pub mod WalkLaws
+pub mod ViewLaws
+pub mod ShownLaws
