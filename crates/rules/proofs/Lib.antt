@@ -12,3 +12,5 @@ pub mod GrantLaws
 pub mod InsertLaws
 pub mod SoundLaws
 pub mod ChainLaws
+pub mod RowLaws
+pub mod ByteLaws
