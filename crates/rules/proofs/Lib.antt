@@ -14,3 +14,4 @@ pub mod SoundLaws
 pub mod ChainLaws
 pub mod RowLaws
 pub mod ByteLaws
+pub mod WriteLaws
