@@ -31,6 +31,16 @@ drop-first : (w : ℕ) (bs t : List ℕ) → length bs ≡ w → drop w (stored 
 unfolding stored
 drop-first w bs t e = drop-at bs (drop (0 + length bs) t) w e ∙ rw (e, zero-add)
 
+-- storing what is there
+pub stored-take : (n : ℕ) (t : List ℕ) → stored 0 (take n t) t ≡ t
+unfolding stored
+stored-take n t = rw zero-add (go n t)
+  where
+    go : (n : ℕ) (t : List ℕ) → take n t ++ drop (length (take n t)) t ≡ t
+    go zero t = refl
+    go (suc n) [] = refl
+    go (suc n) (x ∷ t) = ap (λ (z : List ℕ). x ∷ z) (go n t)
+
 -- the start of the next row
 next : (i w : ℕ) → suc i * w ≡ w + i * w
 next i w = suc-mul i w ∙ add-comm (i * w) w
@@ -158,10 +168,6 @@ module _ {ℓ} {A : Type ℓ} (w : ℕ) (row : A → List ℕ) (f : List ℕ →
         let lw : w ≤ length t = omega (arith, next n w) in
         let ln : n * w ≤ length (drop w t) = simp length-drop (omega (arith, next n w)) in
         rw (back (take w t) (length-take-le w t lw) (bytes-take w t b), rows-written n (drop w t) (bytes-drop w t b) ln, next, take-add)
-
-    pub rows-same : (n : ℕ) (t : List ℕ) → Bytes t → n * w ≤ length t → stored 0 (joined (map row (rowsOf w f n t))) t ≡ t
-    unfolding stored
-    rows-same n t b l = rw (rows-written n t b l, length-take-le (n * w) t l, zero-add) (take-append-drop (n * w) t)
 
 -- what holds of every row of at most w bytes
 pub rows-all {ℓ ℓ′} : {A : Type ℓ} (w : ℕ) (f : List ℕ → A) (P : A → Type ℓ′) → ((r : List ℕ) → length r ≤ w → P (f r))

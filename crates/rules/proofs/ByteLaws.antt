@@ -1,7 +1,7 @@
--- The book in lent tables: what is laid in them is what they hold, and laying what they hold leaves them.
+-- The book in lent tables: what is laid in them is what they hold, and laying what they hold leaves them. A sound book's numbers fit their bytes.
 -- Assumes nothing.
 use Prim.Native.Nat.{ℕ, _+_, _*_, _^_, _≤_, _<_}
-use mathlib.Core.Path.{_≡_, refl, ap}
+use mathlib.Core.Path.{_≡_, refl, ap, _∙_}
 use mathlib.Core.Bool.{Bool, true, false, _||_, true≢false}
 use mathlib.Core.Logic.{inl, inr}
 use mathlib.Core.List.{List, [], _∷_, map, List·Memᴰ}
@@ -9,19 +9,19 @@ use native.Mathlib.Omega.{arith}
 use lib.Dec.{ltb}
 use lib.Pow.{pow-mono}
 use lib.ListN.{length, getD, take}
-use borrow.Author.Tests.{ltb-false}
-use Rattle.rows.specs.Number.{number}
+use borrow.Author.Tests.{ltb-false, le-ltb}
+use Rattle.rows.specs.Number.{number, stored}
 use Rattle.rows.proofs.Laws.{length-stored}
 use Rattle.rows.proofs.Fields.{Bytes}
-use Rattle.rows.proofs.Table.{AllBytes, bytes-joined, bytes-stored, length-rows, length-written, rows-laid, rows-written, rows-same}
+use Rattle.rows.proofs.Table.{AllBytes, bytes-joined, bytes-stored, length-rows, length-written, rows-laid, rows-written, stored-take}
 use Rattle.rules.specs.Book.{Book, Resource}
 use Rattle.rules.specs.Sound.{sound, maxUsers, maxResources, maxTokens, maxGroups}
 use Rattle.rules.specs.Refusals.{short}
-use Rattle.rules.specs.Bytes.{widths, counts, Tables, setRow, innerRow, outerRow, resourceRow, tokenOf, resourceOf, setsIn, tokensIn, resourcesIn, setBytes, innerBytes, outerBytes, resourceBytes, headOf, bookIn, laid}
+use Rattle.rules.specs.Bytes.{widths, counts, Tables, tables, setRow, innerRow, outerRow, resourceRow, tokenOf, resourceOf, setsIn, tokensIn, resourcesIn, setBytes, innerBytes, outerBytes, resourceBytes, headOf, bookIn, laid}
 use Rattle.rules.specs.declared.Token.{Token}
 use Rattle.rules.specs.declared.Head.{Head}
 use Rattle.rules.proofs.LockLaws.{Place}
-use Rattle.rules.proofs.SoundLaws.{sound-counts, sound-kept}
+use Rattle.rules.proofs.SoundLaws.{Counts, sound-counts, sound-kept}
 use Rattle.rules.proofs.RowLaws.{TokenFits, ResourceFits, set-wide, inner-wide, outer-wide, resource-wide, set-read, inner-read, outer-read, resource-read, set-written, inner-written, outer-written, resource-written, set-bytes, inner-bytes, outer-bytes, resource-bytes}
 
 -- ---- the numbers of a book fit their bytes
@@ -43,18 +43,17 @@ pub record BookFits (b : Book) : Type 0 where
 pub sound-fits : (b : Book) → sound b ≡ true → BookFits b
 sound-fits b h =
     let k = sound-kept b h in
-    let c = sound-counts b h in
+    let c : Counts b = sound-counts b h in
     let two : 2 ^ b .users ≤ 2 ^ 64 = pow-mono (c .users≤) in
-    let inner< : length (b .inner .sets) < 65536 = omega (arith, c .inner≤, c .users≤, c .resources≤) in
-    let outer< : length (b .outer .sets) < 65536 = omega (arith, c .outer≤, c .users≤) in
+    let outer< : length (b .outer .sets) < 65536 = omega arith in
     record {
-      mode< = omega (arith, c .mode≤);
-      users< = omega (arith, c .users≤);
-      resources< = omega (arith, c .resources≤);
-      innerSets< = inner<;
-      innerTokens< = omega (arith, c .innerTokens≤);
+      mode< = omega arith;
+      users< = omega arith;
+      resources< = omega arith;
+      innerSets< = omega arith;
+      innerTokens< = omega arith;
       outerSets< = outer<;
-      outerTokens< = omega (arith, c .outerTokens≤);
+      outerTokens< = omega arith;
       innerSet = λ s m. omega (arith, k .inner .sets< s m);
       outerSet = λ s m. omega (arith, k .outer .sets< s m);
       innerToken = λ t m. record {
@@ -209,30 +208,60 @@ short-laid b t r =
     let l = laid-length b t r in
     rw (l .innerVertices, l .innerTokens, l .outerVertices, l .outerTokens, l .resources)
 
-neither : (p q : Bool) → (p || q) ≡ false → (p ≡ false) × (q ≡ false)
-neither true q e = absurd (true≢false e)
-neither false q e = (refl, e)
+-- tables that are long enough for the limits
+pub record Long (t : Tables) : Type 0 where
+  pub innerVertices : (maxUsers + maxResources) * 8 ≤ length (t .innerVertices)
+  pub innerTokens : maxTokens * 5 ≤ length (t .innerTokens)
+  pub outerVertices : (maxUsers + maxGroups) * 8 ≤ length (t .outerVertices)
+  pub outerTokens : maxTokens * 4 ≤ length (t .outerTokens)
+  pub resources : maxResources * 12 ≤ length (t .resources)
 
--- tables that are not short have room for a sound book
-pub sound-room : (b : Book) (t : Tables) → sound b ≡ true → short t ≡ false → Room (headOf b) t
-unfolding headOf short
-sound-room b t h s =
-    let c = sound-counts b h in
+neither : (p : Bool) (l n : ℕ) → (p || ltb l n) ≡ false → (p ≡ false) × (n ≤ l)
+neither true l n e = absurd (true≢false e)
+neither false l n e = (refl, ltb-false l n e)
+
+pub short-long : (t : Tables) → short t ≡ false → Long t
+unfolding short
+short-long t s =
     let iv = ltb (length (t .innerVertices)) ((maxUsers + maxResources) * 8) in
     let it = ltb (length (t .innerTokens)) (maxTokens * 5) in
     let ov = ltb (length (t .outerVertices)) ((maxUsers + maxGroups) * 8) in
     let ot = ltb (length (t .outerTokens)) (maxTokens * 4) in
-    let rs = ltb (length (t .resources)) (maxResources * 12) in
-    let (four, e) = neither (iv || it || ov || ot) rs s in
-    let (three, d) = neither (iv || it || ov) ot four in
-    let (two, c2) = neither (iv || it) ov three in
-    let (a, b2) = neither iv it two in
+    let (four, e) = neither (iv || it || ov || ot) (length (t .resources)) (maxResources * 12) s in
+    let (three, d) = neither (iv || it || ov) (length (t .outerTokens)) (maxTokens * 4) four in
+    let (two, c) = neither (iv || it) (length (t .outerVertices)) ((maxUsers + maxGroups) * 8) three in
+    let (one, b) = neither iv (length (t .innerTokens)) (maxTokens * 5) two in
     record {
-      innerVertices = omega (arith, c .inner≤, c .users≤, c .resources≤, ltb-false (length (t .innerVertices)) 2560 a);
-      innerTokens = omega (arith, c .innerTokens≤, ltb-false (length (t .innerTokens)) 20480 b2);
-      outerVertices = omega (arith, c .outer≤, c .users≤, ltb-false (length (t .outerVertices)) 4096 c2);
-      outerTokens = omega (arith, c .outerTokens≤, ltb-false (length (t .outerTokens)) 16384 d);
-      resources = omega (arith, c .resources≤, ltb-false (length (t .resources)) 3072 e);
+      innerVertices = ltb-false (length (t .innerVertices)) ((maxUsers + maxResources) * 8) one;
+      innerTokens = b;
+      outerVertices = c;
+      outerTokens = d;
+      resources = e;
+    }
+
+pub long-short : (t : Tables) → Long t → short t ≡ false
+unfolding short
+long-short t l =
+    rw (
+      le-ltb (length (t .innerVertices)) ((maxUsers + maxResources) * 8) (l .innerVertices),
+      le-ltb (length (t .innerTokens)) (maxTokens * 5) (l .innerTokens),
+      le-ltb (length (t .outerVertices)) ((maxUsers + maxGroups) * 8) (l .outerVertices),
+      le-ltb (length (t .outerTokens)) (maxTokens * 4) (l .outerTokens),
+      le-ltb (length (t .resources)) (maxResources * 12) (l .resources),
+    )
+
+-- they have room for a sound book
+pub sound-room : (b : Book) (t : Tables) → sound b ≡ true → short t ≡ false → Room (headOf b) t
+unfolding headOf
+sound-room b t h s =
+    let c : Counts b = sound-counts b h in
+    let l : Long t = short-long t s in
+    record {
+      innerVertices = omega arith;
+      innerTokens = omega arith;
+      outerVertices = omega arith;
+      outerTokens = omega arith;
+      resources = omega arith;
     }
 
 -- the rows that a head counts, written as they were read
@@ -253,12 +282,14 @@ sections-in h t r b =
 
 -- laying the book that tables hold leaves them
 pub laid-same : (h : Head) (t : Tables) → Room h t → TableBytes t → laid (bookIn h t) t ≡ t
-unfolding bookIn laid setsIn tokensIn resourcesIn setBytes innerBytes outerBytes resourceBytes
-laid-same h t r b =
-    rw (
-      rows-same 8 setRow number set-written (h .«inner_vertices» .0) (t .innerVertices) (b .innerVertices) (r .innerVertices),
-      rows-same 5 innerRow tokenOf inner-written (h .«inner_tokens» .0) (t .innerTokens) (b .innerTokens) (r .innerTokens),
-      rows-same 8 setRow number set-written (h .«outer_vertices» .0) (t .outerVertices) (b .outerVertices) (r .outerVertices),
-      rows-same 4 outerRow tokenOf outer-written (h .«outer_tokens» .0) (t .outerTokens) (b .outerTokens) (r .outerTokens),
-      rows-same 12 resourceRow resourceOf resource-written (h .resources .0) (t .resources) (b .resources) (r .resources),
-    )
+unfolding laid
+laid-same h t r b = ap (λ (ps : List (List ℕ)). lay ps t) (sections-in h t r b) ∙ simp stored-take
+  where
+    lay : List (List ℕ) → Tables → Tables
+    lay ps t =
+        tables
+        (stored 0 (getD ps 0 []) (t .innerVertices))
+        (stored 0 (getD ps 1 []) (t .innerTokens))
+        (stored 0 (getD ps 2 []) (t .outerVertices))
+        (stored 0 (getD ps 3 []) (t .outerTokens))
+        (stored 0 (getD ps 4 []) (t .resources))

@@ -7,19 +7,19 @@ use mathlib.Core.List.{List, [], _∷_, _++_, append-assoc, append-nil}
 use native.Mathlib.Nat.{zero-mul, mul-zero}
 use native.Mathlib.Omega.{arith}
 use lib.Dec.{eqb, leb, lit<}
-use lib.ListN.{length, getD, take, drop, length-append, length-drop, take-append-drop, List·getD-map}
-use lib.Seq.{take-all, drop-drop, drop-at, drop-nil}
+use lib.ListN.{length, getD, take, drop, length-append, length-drop, take-append-drop}
+use lib.Seq.{take-all, length-take-le, drop-drop, drop-at, drop-nil}
 use borrow.Author.Tests.{eqb-true, eq-eqb, leb-true, le-leb}
 use Rattle.rows.specs.Number.{bytesOf, cell, stored, joined}
 use Rattle.rows.proofs.Fields.{Bytes, bytes-append, bytes-take, bytes-drop, cells, fields, sum, cells-fields, fields-cells, bytes-fields}
 use Rattle.rows.proofs.Table.{bytes-all}
-use Rattle.rows.proofs.Stretches.{stretches, stretch-at, stretches-joined, joined-stretches, stretch-lengths, length-of-joined, sum-next, sum-take}
+use Rattle.rows.proofs.Stretches.{stretches, stretch-at, stretches-joined, joined-stretches, length-of-joined, sum-next, sum-take}
 use Rattle.sets.proofs.Laws.{both}
 use Rattle.rules.specs.Book.{Book}
 use Rattle.rules.specs.Sound.{sound}
 use Rattle.rules.specs.Bytes.{widths, head, headOf, counts, Tables, tables, bookIn, laid, header, write, headIn, total, start, section, sections, read, isBook}
 use Rattle.rules.specs.declared.Head.{Head}
-use Rattle.rules.proofs.SoundLaws.{sound-counts}
+use Rattle.rules.proofs.SoundLaws.{Counts, sound-counts}
 use Rattle.rules.proofs.ByteLaws.{BookFits, sound-fits, book-laid, sound-book-laid, head-in, sectionsOf, sizes, section-lengths, section-bytes, Room, TableBytes, sections-in}
 
 -- ---- the head's 17 bytes: mark, version, mode, users and five counts
@@ -85,6 +85,18 @@ start-le h k =
     let ns = counts h in
     omega (arith, total-sizes ns widths k, total-sizes ns widths 5, sum-take (sizes ns widths) k)
 
+-- a section lies within bytes of the exact length
+pub section-in : (bs : List ℕ) → length bs ≡ start (headIn bs) 5 → (k : ℕ)
+    → start (headIn bs) k + getD (counts (headIn bs)) k 0 * getD widths k 0 ≤ length bs
+section-in bs exact k = omega (arith, start-next (headIn bs) k, start-le (headIn bs) (suc k))
+
+pub section-length : (bs : List ℕ) → length bs ≡ start (headIn bs) 5 → (k : ℕ)
+    → length (section bs k) ≡ getD (counts (headIn bs)) k 0 * getD widths k 0
+unfolding section
+section-length bs exact k =
+    length-take-le (getD (counts (headIn bs)) k 0 * getD widths k 0) (drop (start (headIn bs) k) bs)
+    (simp length-drop (omega (arith, section-in bs exact k)))
+
 -- the stretches behind the head's bytes
 abbrev parts : Head → List ℕ → List (List ℕ)
 parts h bs = stretches (sizes (counts h) widths) (drop 17 bs)
@@ -142,8 +154,8 @@ largest = refl
 pub write-largest : (b : Book) → sound b ≡ true → length (write b) ≤ 46609
 unfolding start total counts headOf
 write-largest b h =
-    let c = sound-counts b h in
-    omega (arith, length-write b, c .inner≤, c .outer≤, c .users≤, c .resources≤, c .innerTokens≤, c .outerTokens≤)
+    let c : Counts b = sound-counts b h in
+    omega (arith, length-write b)
 
 header-bytes : (h : Head) → Bytes (header h)
 header-bytes h = rw header-fields (bytes-fields headWidths (headNumbers h))
@@ -221,12 +233,6 @@ module _ (bs : List ℕ) (byte : Bytes bs) (exact : length bs ≡ start (headIn 
   unfolding start counts
   behind = simp length-drop (omega (arith, total-sizes (counts (headIn bs)) widths 5))
 
-  section-length : (k : ℕ) → length (section bs k) ≡ getD size k 0
-  section-length k =
-      ap length (section-part bs k)
-      ∙ sym (List·getD-map length (parts (headIn bs) bs) k [])
-      ∙ ap (λ (z : List ℕ). getD z k 0) (stretch-lengths size (drop 17 bs) (omega (arith, behind)))
-
   bytes-section : (k : ℕ) → Bytes (section bs k)
   unfolding section
   bytes-section k =
@@ -235,11 +241,11 @@ module _ (bs : List ℕ) (byte : Bytes bs) (exact : length bs ≡ start (headIn 
   room : Room (headIn bs) (sections bs)
   unfolding sections counts
   room = record {
-    innerVertices = omega (arith, section-length 0);
-    innerTokens = omega (arith, section-length 1);
-    outerVertices = omega (arith, section-length 2);
-    outerTokens = omega (arith, section-length 3);
-    resources = omega (arith, section-length 4);
+    innerVertices = omega (arith, section-length bs exact 0);
+    innerTokens = omega (arith, section-length bs exact 1);
+    outerVertices = omega (arith, section-length bs exact 2);
+    outerTokens = omega (arith, section-length bs exact 3);
+    resources = omega (arith, section-length bs exact 4);
   }
 
   held : TableBytes (sections bs)
@@ -258,7 +264,7 @@ module _ (bs : List ℕ) (byte : Bytes bs) (exact : length bs ≡ start (headIn 
   sections-read = sections-in (headIn bs) (sections bs) room held ∙ (λ i. part 0 i ∷ part 1 i ∷ part 2 i ∷ part 3 i ∷ part 4 i ∷ [])
     where
       part : (k : ℕ) → take (getD size k 0) (section bs k) ≡ getD (parts (headIn bs) bs) k []
-      part k = take-all (getD size k 0) (section bs k) (omega (arith, section-length k)) ∙ section-part bs k
+      part k = take-all (getD size k 0) (section bs k) (omega (arith, section-length bs exact k, size-at (counts (headIn bs)) widths k)) ∙ section-part bs k
 
   header-read : cell 3 0 bs ≡ 0x424B54 → cell 2 3 bs ≡ 1 → header (headIn bs) ≡ take 17 bs
   unfolding headIn start
