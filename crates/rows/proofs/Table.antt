@@ -1,13 +1,14 @@
 -- The laws of a table of rows of bytes, over the width and what a row is read as. Assumes nothing.
-use mathlib.Core.Path.{_≡_, refl, sym, ap, ap₂, _∙_}
-use mathlib.Core.List.{List, [], _∷_, _++_, append-assoc, append-nil, map}
+use mathlib.Core.Path.{_≡_, refl, sym, ap, ap₂, _∙_, subst}
+use mathlib.Core.List.{List, [], _∷_, _++_, append-assoc, append-nil, map, List·Memᴰ, List·Memᴰ·head, List·Memᴰ·tail, List·Memᴰ·not-nil}
 use Prim.Native.Nat.{ℕ, zero, suc, _+_, _*_, _≤_, _<_}
 use native.Mathlib.Nat.{suc-mul, zero-mul, zero-add, add-comm, add-assoc, add-zero, add-mul, add-suc, suc-add, not-suc-le-zero, le-of-suc-le-suc}
 use native.Mathlib.Omega.{arith}
-use lib.ListN.{length, take, drop, getD, set, length-append, length-take, length-drop, take-append-drop}
+use lib.ListN.{length, take, drop, getD, set, length-append, length-take, length-drop, length-map, take-append-drop}
 use lib.Seq.{take-add, drop-drop, take-at, drop-at, length-take-le, getD-set-same, getD-set-other}
 use Rattle.rows.specs.Number.{stored, rowsOf, joined}
 use Rattle.rows.proofs.Laws.{stored-add, stored-none, length-stored}
+use Rattle.rows.proofs.Fields.{Bytes, bytes-nil, bytes-append, bytes-take, bytes-drop}
 
 -- a store past the first w bytes leaves them, and is a store in the rest
 take-stored : (w k : ℕ) (bs t : List ℕ) → w ≤ length t → take w (stored (w + k) bs t) ≡ take w t
@@ -29,6 +30,16 @@ take-first w bs t e = take-at bs (drop (0 + length bs) t) w e
 drop-first : (w : ℕ) (bs t : List ℕ) → length bs ≡ w → drop w (stored 0 bs t) ≡ drop w t
 unfolding stored
 drop-first w bs t e = drop-at bs (drop (0 + length bs) t) w e ∙ rw (e, zero-add)
+
+-- storing what is there
+pub stored-take : (n : ℕ) (t : List ℕ) → stored 0 (take n t) t ≡ t
+unfolding stored
+stored-take n t = rw zero-add (go n t)
+  where
+    go : (n : ℕ) (t : List ℕ) → take n t ++ drop (length (take n t)) t ≡ t
+    go zero t = refl
+    go (suc n) [] = refl
+    go (suc n) (x ∷ t) = ap (λ (z : List ℕ). x ∷ z) (go n t)
 
 -- the start of the next row
 next : (i w : ℕ) → suc i * w ≡ w + i * w
@@ -116,3 +127,76 @@ rows-append w f (r ∷ rs) n t h l =
     ∙ rows-append w f rs (suc n) (stored (n * w) r t) (h .1) room
     ∙ ap (λ (x : List _). x ++ map f rs) (rows-more w f n t r (h .0) (omega (arith, more)))
     ∙ append-assoc (rowsOf w f n t) (f r ∷ []) (map f rs)
+
+-- ---- whole tables: rows that `row` writes and f reads, all of w bytes
+
+pub length-written {ℓ} : {A : Type ℓ} (w : ℕ) (row : A → List ℕ) → ((x : A) → length (row x) ≡ w) → (xs : List A) → length (joined (map row xs)) ≡ length xs * w
+length-written w row wide xs = length-joined w (map row xs) (go xs) ∙ ap (λ (n : ℕ). n * w) (length-map xs row)
+  where
+    go : (xs : List _) → Wide w (map row xs)
+    go [] = tt
+    go (x ∷ xs) = (wide x, go xs)
+
+module _ {ℓ} {A : Type ℓ} (w : ℕ) (row : A → List ℕ) (f : List ℕ → A) where
+  -- reading what was written, whatever comes behind it
+  pub rows-read : (xs : List A) (rest : List ℕ) → ((x : A) → List·Memᴰ x xs → (length (row x) ≡ w) × (f (row x) ≡ x))
+      → rowsOf w f (length xs) (joined (map row xs) ++ rest) ≡ xs
+  unfolding rowsOf joined
+  rows-read [] rest h = refl
+  rows-read (x ∷ xs) rest h =
+      let (wide, same) = h x (List·Memᴰ·head refl) in
+      let behind : List ℕ = joined (map row xs) ++ rest in
+      rw (
+        append-assoc (row x) (joined (map row xs)) rest,
+        take-at (row x) behind w wide,
+        drop-at (row x) behind w wide,
+        same,
+        rows-read xs rest (λ y m. h y (List·Memᴰ·tail m)),
+      )
+
+  pub rows-laid : (xs : List A) (t : List ℕ) → ((x : A) → List·Memᴰ x xs → (length (row x) ≡ w) × (f (row x) ≡ x))
+      → rowsOf w f (length xs) (stored 0 (joined (map row xs)) t) ≡ xs
+  unfolding stored
+  rows-laid xs t h = rows-read xs (drop (0 + length (joined (map row xs))) t) h
+
+  -- writing what was read
+  module _ (back : (r : List ℕ) → length r ≡ w → Bytes r → row (f r) ≡ r) where
+    pub rows-written : (n : ℕ) (t : List ℕ) → Bytes t → n * w ≤ length t → joined (map row (rowsOf w f n t)) ≡ take (n * w) t
+    unfolding rowsOf joined
+    rows-written zero t b l = rw zero-mul
+    rows-written (suc n) t b l =
+        let lw : w ≤ length t = omega (arith, next n w) in
+        let ln : n * w ≤ length (drop w t) = simp length-drop (omega (arith, next n w)) in
+        rw (back (take w t) (length-take-le w t lw) (bytes-take w t b), rows-written n (drop w t) (bytes-drop w t b) ln, next, take-add)
+
+-- what holds of every row of at most w bytes
+pub rows-all {ℓ ℓ′} : {A : Type ℓ} (w : ℕ) (f : List ℕ → A) (P : A → Type ℓ′) → ((r : List ℕ) → length r ≤ w → P (f r))
+    → (n : ℕ) (t : List ℕ) {x : A} → List·Memᴰ x (rowsOf w f n t) → P x
+unfolding rowsOf
+rows-all w f P h zero t m = absurd (List·Memᴰ·not-nil m)
+rows-all w f P h (suc n) t (List·Memᴰ·head e) = subst P (sym e) (h (take w t) (simp length-take (omega arith)))
+rows-all w f P h (suc n) t (List·Memᴰ·tail m) = rows-all w f P h n (drop w t) m
+
+-- ---- rows that are bytes
+
+abbrev pub AllBytes : List (List ℕ) → Type 0
+AllBytes [] = Unit {0}
+AllBytes (r ∷ rs) = Bytes r × AllBytes rs
+
+pub bytes-all : (rs : List (List ℕ)) → AllBytes rs → Bytes (joined rs)
+unfolding joined
+bytes-all [] h = bytes-nil
+bytes-all (r ∷ rs) h = bytes-append r (joined rs) (h .0) (bytes-all rs (h .1))
+
+pub bytes-joined {ℓ} : {A : Type ℓ} (row : A → List ℕ) → ((x : A) → Bytes (row x)) → (xs : List A) → Bytes (joined (map row xs))
+bytes-joined row h xs = bytes-all (map row xs) (go xs)
+  where
+    go : (xs : List _) → AllBytes (map row xs)
+    go [] = tt
+    go (x ∷ xs) = (h x, go xs)
+
+pub bytes-stored : (k : ℕ) (bs t : List ℕ) → Bytes bs → Bytes t → Bytes (stored k bs t)
+unfolding stored
+bytes-stored k bs t h b =
+    bytes-append (take k t) (bs ++ drop (k + length bs) t) (bytes-take k t b)
+    (bytes-append bs (drop (k + length bs) t) h (bytes-drop (k + length bs) t b))

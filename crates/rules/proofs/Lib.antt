@@ -16,3 +16,6 @@ pub mod KnowsLaws
 pub mod WalkLaws
 pub mod ViewLaws
 pub mod ShownLaws
+pub mod RowLaws
+pub mod ByteLaws
+pub mod WriteLaws
