@@ -12,3 +12,4 @@ pub mod GrantLaws
 pub mod InsertLaws
 pub mod SoundLaws
 pub mod ChainLaws
+pub mod AccessLaws
