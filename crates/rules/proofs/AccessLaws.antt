@@ -33,10 +33,17 @@ pub list-count : (b : Book) → length (access b .lists) ≡ length (b .resource
 unfolding access
 list-count b = length-map (b .resources) (λ (x : Resource). x .list)
 
+pub users-of : (c : Book) (a : Access) → access c ≡ a → c .users ≡ a .users
+unfolding access
+users-of c a e = ap (λ (a : Access). a .users) e
+
+pub resources-of : (c : Book) (a : Access) → access c ≡ a → length (c .resources) ≡ length (a .lists)
+resources-of c a e = sym (list-count c) ∙ ap (λ (a : Access). length (a .lists)) e
+
 abbrev pub withLists : Access → List ℕ → Access
 withLists a ls = record { users = a .users; lists = ls }
 
-list-access : (b : Book) (r l : ℕ) → access (withList b r l) ≡ withLists (access b) (set (access b .lists) r l)
+pub list-access : (b : Book) (r l : ℕ) → access (withList b r l) ≡ withLists (access b) (set (access b .lists) r l)
 unfolding access withList withResources
 list-access b r l = ap (withLists (access b)) (map-set (λ (x : Resource). x .list) (b .resources) r (record { list = l; inner = resource b r .inner; outer = resource b r .outer }))
 

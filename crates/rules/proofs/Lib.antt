@@ -13,3 +13,5 @@ pub mod InsertLaws
 pub mod SoundLaws
 pub mod ChainLaws
 pub mod AccessLaws
+pub mod GroupedLaws
+pub mod RequestLaws
