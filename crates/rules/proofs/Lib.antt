@@ -15,3 +15,5 @@ pub mod ChainLaws
 pub mod AccessLaws
 pub mod GroupedLaws
 pub mod RequestLaws
+pub mod ByteHoles
+pub mod CallLaws

@@ -1,0 +1,15 @@
+-- Holes to be replaced by the laws about bytes.
+-- Assumes nothing.
+use Prim.Native.Nat.{ℕ}
+use mathlib.Core.Path.{_≡_}
+use mathlib.Core.Bool.{Bool, true}
+use mathlib.Core.List.{List}
+use Rattle.rules.specs.Book.{Book}
+use Rattle.rules.specs.Sound.{sound}
+use Rattle.rules.specs.Bytes.{Tables, bookIn, headOf, laid, headIn, read}
+
+pub sound-book-laid : (b : Book) (t : Tables) → sound b ≡ true → bookIn (headOf b) (laid b t) ≡ b
+sound-book-laid b t h = ?
+
+pub head-read : (bs : List ℕ) → headOf (read bs) ≡ headIn bs
+head-read bs = ?
