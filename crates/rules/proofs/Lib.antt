@@ -17,3 +17,4 @@ pub mod GroupedLaws
 pub mod RequestLaws
 pub mod ByteHoles
 pub mod CallLaws
+pub mod RunLaws
