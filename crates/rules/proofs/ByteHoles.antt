@@ -2,10 +2,11 @@
 -- Assumes nothing.
 use Prim.Native.Nat.{ℕ}
 use mathlib.Core.Path.{_≡_}
-use mathlib.Core.Bool.{Bool, true}
+use mathlib.Core.Bool.{Bool, true, false}
 use mathlib.Core.List.{List}
 use Rattle.rules.specs.Book.{Book}
 use Rattle.rules.specs.Sound.{sound}
+use Rattle.rules.specs.Refusals.{short}
 use Rattle.rules.specs.Bytes.{Tables, bookIn, headOf, laid, headIn, read}
 
 pub sound-book-laid : (b : Book) (t : Tables) → sound b ≡ true → bookIn (headOf b) (laid b t) ≡ b
@@ -13,3 +14,6 @@ sound-book-laid b t h = ?
 
 pub head-read : (bs : List ℕ) → headOf (read bs) ≡ headIn bs
 head-read bs = ?
+
+pub sound-long-laid : (b : Book) (t : Tables) → sound b ≡ true → short t ≡ false → short (laid b t) ≡ false
+sound-long-laid b t h l = ?

@@ -23,19 +23,20 @@ use Rattle.rules.specs.declared.Changed.the-variants as changed
 use Rattle.rules.specs.declared.Refusal.{Refusal}
 use Rattle.rules.specs.declared.Refusal.the-variants.{ShortTable, Unsound}
 use Rattle.rules.proofs.AccessLaws.{work-access}
-use Rattle.rules.proofs.RequestLaws.{verdict-none, work-sound}
-use Rattle.rules.proofs.ByteHoles.{sound-book-laid, head-read}
+use Rattle.rules.proofs.RequestLaws.{verdict-none, accepted-long, work-sound}
+use Rattle.rules.proofs.ByteHoles.{sound-book-laid, sound-long-laid, head-read}
 
 -- ---- from one kept book to the next
 
 -- between the two, a host was told of es
 pub record Leads (s : Kept) (es : List Event) (e : Kept) : Type 0 where
   pub sound′ : sound (bookOf s) ≡ true → sound (bookOf e) ≡ true
+  pub long : short (e .tables) ≡ short (s .tables)
   pub lists : access (bookOf e) ≡ told es (access (bookOf s))
 
 pub leads-none : (s : Kept) → Leads s [] s
 unfolding told
-leads-none s = record { sound′ = λ h. h; lists = refl }
+leads-none s = record { sound′ = λ h. h; long = refl; lists = refl }
 
 pub told-append : (es fs : List Event) (a : Access) → told (es ++ fs) a ≡ told fs (told es a)
 unfolding told
@@ -45,7 +46,7 @@ told-append (loads c ∷ es) fs a = told-append es fs c
 
 pub leads-then : {s m e : Kept} {es fs : List Event} → Leads s es m → Leads m fs e → Leads s (es ++ fs) e
 leads-then {s} {m} {e} {es} {fs} p q =
-    record { sound′ = λ h. q .sound′ (p .sound′ h); lists = q .lists ∙ ap (told fs) (p .lists) ∙ sym (told-append es fs (access (bookOf s))) }
+    record { sound′ = λ h. q .sound′ (p .sound′ h); long = q .long ∙ p .long; lists = q .lists ∙ ap (told fs) (p .lists) ∙ sym (told-append es fs (access (bookOf s))) }
 
 -- ---- join, insert, grant, revoke
 
@@ -60,10 +61,16 @@ module _ (q : Request) (h : Head) (t : Tables) (list : List ℕ) where
   abbrev told-by : Option Refusal → List Event
   told-by z = didChange (changeBy z (work q (bookIn h t)) t list .answer) q
 
+  long-before : refusal t (bookIn h t) (rowsLent list) q ≡ none → short t ≡ false
+  long-before e = accepted-long t (bookIn h t) (rowsLent list) q e
+
+  sound-after : refusal t (bookIn h t) (rowsLent list) q ≡ none → sound (work q (bookIn h t) .book) ≡ true
+  sound-after e = work-sound t (bookIn h t) (rowsLent list) q e
+
   -- an accepted request leaves the book that the rules give
   pub change-book : refusal t (bookIn h t) (rowsLent list) q ≡ none → bookOf (kept-by none) ≡ work q (bookIn h t) .book
   unfolding changeBy headChanged bookOf
-  change-book e = sound-book-laid (work q (bookIn h t) .book) t (work-sound t (bookIn h t) (rowsLent list) q e)
+  change-book e = sound-book-laid (work q (bookIn h t) .book) t (sound-after e)
 
   pub change-leads : Leads (keep h t) (events (to-change q list) (keep h t)) (after (to-change q list) (keep h t))
   unfolding after events change changeBy headChanged didChange told bookOf
@@ -73,7 +80,8 @@ module _ (q : Request) (h : Head) (t : Tables) (list : List ℕ) where
       go (some r) e = leads-none (keep h t)
       go none e =
           record {
-            sound′ = λ k. ap sound (change-book e) ∙ work-sound t (bookIn h t) (rowsLent list) q e;
+            sound′ = λ k. ap sound (change-book e) ∙ sound-after e;
+            long = sound-long-laid (work q (bookIn h t) .book) t (sound-after e) (long-before e) ∙ sym (long-before e);
             lists = ap access (change-book e) ∙ work-access q (bookIn h t);
           }
 
@@ -137,15 +145,15 @@ serve-leads requests answers list s = go (refusalServe (s .tables) (bookIn (s .h
 -- ---- reading a book
 
 -- bytes that are not refused are those of a sound book
-pub read-none : (t : Tables) (bs : List ℕ) → refusalRead t bs ≡ none → sound (read bs) ≡ true
+pub read-none : (t : Tables) (bs : List ℕ) → refusalRead t bs ≡ none → (short t ≡ false) × (sound (read bs) ≡ true)
 unfolding refusalRead isBook
 read-none t bs h =
     let (x, h1) = verdict-none ShortTable (short t) ((Unsound, not (isBook bs)) ∷ []) h in
     let (y, h2) = verdict-none Unsound (not (isBook bs)) [] h1 in
-    both (leb 17 (length bs) && eqb (cell 3 0 bs) 0x424B54 && eqb (cell 2 3 bs) 1 && eqb (length bs) (start (headIn bs) 5)) (sound (read bs)) (not-false (isBook bs) y) .1
+    (x, both (leb 17 (length bs) && eqb (cell 3 0 bs) 0x424B54 && eqb (cell 2 3 bs) 1 && eqb (length bs) (start (headIn bs) 5)) (sound (read bs)) (not-false (isBook bs) y) .1)
 
 pub read-book : (t : Tables) (bs : List ℕ) → refusalRead t bs ≡ none → bookIn (headIn bs) (laid (read bs) t) ≡ read bs
-read-book t bs h = ap (λ (k : Head). bookIn k (laid (read bs) t)) (sym (head-read bs)) ∙ sound-book-laid (read bs) t (read-none t bs h)
+read-book t bs h = ap (λ (k : Head). bookIn k (laid (read bs) t)) (sym (head-read bs)) ∙ sound-book-laid (read bs) t (read-none t bs h .1)
 
 read-leads : (bs : List ℕ) (s : Kept) → Leads s (events (to-read bs) s) (after (to-read bs) s)
 unfolding events after readCall loadBy headLoaded didLoad told bookOf
@@ -157,7 +165,8 @@ read-leads bs s = go (refusalRead (s .tables) bs) refl
     go (some r) e = leads-none s
     go none e =
         let same = read-book (s .tables) bs e in
-        record { sound′ = λ k. ap sound same ∙ read-none (s .tables) bs e; lists = ap access same }
+        let (l, k) = read-none (s .tables) bs e in
+        record { sound′ = λ h. ap sound same ∙ k; long = sound-long-laid (read bs) (s .tables) k l ∙ sym l; lists = ap access same }
 
 -- ---- any call
 

@@ -18,3 +18,4 @@ pub mod RequestLaws
 pub mod ByteHoles
 pub mod CallLaws
 pub mod RunLaws
+pub mod RefusedLaws
