@@ -1,13 +1,14 @@
 -- The laws of a table of rows of bytes, over the width and what a row is read as. Assumes nothing.
 use mathlib.Core.Path.{_≡_, refl, sym, ap, ap₂, _∙_}
-use mathlib.Core.List.{List, [], _∷_, _++_, append-assoc, append-nil, map}
+use mathlib.Core.List.{List, [], _∷_, _++_, append-assoc, append-nil, map, List·Memᴰ, List·Memᴰ·head, List·Memᴰ·tail}
 use Prim.Native.Nat.{ℕ, zero, suc, _+_, _*_, _≤_, _<_}
 use native.Mathlib.Nat.{suc-mul, zero-mul, zero-add, add-comm, add-assoc, add-zero, add-mul, add-suc, suc-add, not-suc-le-zero, le-of-suc-le-suc}
 use native.Mathlib.Omega.{arith}
-use lib.ListN.{length, take, drop, getD, set, length-append, length-take, length-drop, take-append-drop}
+use lib.ListN.{length, take, drop, getD, set, length-append, length-take, length-drop, length-map, take-append-drop}
 use lib.Seq.{take-add, drop-drop, take-at, drop-at, length-take-le, getD-set-same, getD-set-other}
 use Rattle.rows.specs.Number.{stored, rowsOf, joined}
 use Rattle.rows.proofs.Laws.{stored-add, stored-none, length-stored}
+use Rattle.rows.proofs.Fields.{Bytes, bytes-nil, bytes-append, bytes-take, bytes-drop}
 
 -- a store past the first w bytes leaves them, and is a store in the rest
 take-stored : (w k : ℕ) (bs t : List ℕ) → w ≤ length t → take w (stored (w + k) bs t) ≡ take w t
@@ -116,3 +117,45 @@ rows-append w f (r ∷ rs) n t h l =
     ∙ rows-append w f rs (suc n) (stored (n * w) r t) (h .1) room
     ∙ ap (λ (x : List _). x ++ map f rs) (rows-more w f n t r (h .0) (omega (arith, more)))
     ∙ append-assoc (rowsOf w f n t) (f r ∷ []) (map f rs)
+
+-- ---- whole tables: rows that `row` writes and f reads, all of w bytes
+
+module _ {ℓ} {A : Type ℓ} (w : ℕ) (row : A → List ℕ) (f : List ℕ → A) (wide : (x : A) → length (row x) ≡ w) where
+  wide-rows : (xs : List A) → Wide w (map row xs)
+  wide-rows [] = tt
+  wide-rows (x ∷ xs) = (wide x, wide-rows xs)
+
+  pub length-written : (xs : List A) → length (joined (map row xs)) ≡ length xs * w
+  length-written xs = length-joined w (map row xs) (wide-rows xs) ∙ ap (λ (n : ℕ). n * w) (length-map xs row)
+
+  -- reading what was written, whatever comes behind it
+  pub rows-read : (xs : List A) (rest : List ℕ) → ((x : A) → List·Memᴰ x xs → f (row x) ≡ x) → rowsOf w f (length xs) (joined (map row xs) ++ rest) ≡ xs
+  unfolding rowsOf joined
+  rows-read [] rest h = refl
+  rows-read (x ∷ xs) rest h =
+      let s : (row x ++ joined (map row xs)) ++ rest ≡ row x ++ (joined (map row xs) ++ rest) = append-assoc (row x) (joined (map row xs)) rest in
+      rw (s, take-at (row x) (joined (map row xs) ++ rest) w (wide x), drop-at (row x) (joined (map row xs) ++ rest) w (wide x), h x (List·Memᴰ·head refl), rows-read xs rest (λ y m. h y (List·Memᴰ·tail m)))
+
+  pub rows-laid : (xs : List A) (t : List ℕ) → ((x : A) → List·Memᴰ x xs → f (row x) ≡ x) → rowsOf w f (length xs) (stored 0 (joined (map row xs)) t) ≡ xs
+  unfolding stored
+  rows-laid xs t h = rows-read xs (drop (0 + length (joined (map row xs))) t) h
+
+  -- writing what was read
+  module _ (back : (r : List ℕ) → length r ≡ w → Bytes r → row (f r) ≡ r) where
+    pub rows-written : (n : ℕ) (t : List ℕ) → Bytes t → n * w ≤ length t → joined (map row (rowsOf w f n t)) ≡ take (n * w) t
+    unfolding rowsOf joined
+    rows-written zero t b l = rw zero-mul
+    rows-written (suc n) t b l =
+        let lw : w ≤ length t = omega (arith, next n w) in
+        let ln : n * w ≤ length (drop w t) = simp length-drop (omega (arith, next n w)) in
+        rw (back (take w t) (length-take-le w t lw) (bytes-take w t b), rows-written n (drop w t) (bytes-drop w t b) ln, next, take-add)
+
+    pub rows-same : (n : ℕ) (t : List ℕ) → Bytes t → n * w ≤ length t → stored 0 (joined (map row (rowsOf w f n t))) t ≡ t
+    unfolding stored
+    rows-same n t b l =
+        rw (rows-written n t b l, length-take-le (n * w) t l, zero-add) (take-append-drop (n * w) t)
+
+pub bytes-joined {ℓ} : {A : Type ℓ} (row : A → List ℕ) → ((x : A) → Bytes (row x)) → (xs : List A) → Bytes (joined (map row xs))
+unfolding joined
+bytes-joined row h [] = bytes-nil
+bytes-joined row h (x ∷ xs) = bytes-append (row x) (joined (map row xs)) (h x) (bytes-joined row h xs)

@@ -9,9 +9,6 @@ use Rattle.rules.specs.Sound.{sound}
 use Rattle.rules.specs.Refusals.{short}
 use Rattle.rules.specs.Bytes.{Tables, bookIn, headOf, laid, headIn, read}
 
-pub sound-book-laid : (b : Book) (t : Tables) → sound b ≡ true → bookIn (headOf b) (laid b t) ≡ b
-sound-book-laid b t h = ?
-
 pub head-read : (bs : List ℕ) → headOf (read bs) ≡ headIn bs
 head-read bs = ?
 

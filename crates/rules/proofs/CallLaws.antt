@@ -24,7 +24,8 @@ use Rattle.rules.specs.declared.Refusal.{Refusal}
 use Rattle.rules.specs.declared.Refusal.the-variants.{ShortTable, Unsound}
 use Rattle.rules.proofs.AccessLaws.{work-access}
 use Rattle.rules.proofs.RequestLaws.{verdict-none, accepted-long, work-sound}
-use Rattle.rules.proofs.ByteHoles.{sound-book-laid, sound-long-laid, head-read}
+use Rattle.rules.proofs.ByteLaws.{sound-book-laid}
+use Rattle.rules.proofs.ByteHoles.{sound-long-laid, head-read}
 
 -- ---- from one kept book to the next
 

@@ -12,6 +12,8 @@ pub mod GrantLaws
 pub mod InsertLaws
 pub mod SoundLaws
 pub mod ChainLaws
+pub mod RowLaws
+pub mod ByteLaws
 pub mod AccessLaws
 pub mod GroupedLaws
 pub mod RequestLaws
