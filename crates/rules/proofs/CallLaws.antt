@@ -114,13 +114,13 @@ one-open u r h t list = go (refusalOpen t (bookIn h t) (rowsLent list) u r)
     go (some k) = refl
     go none = refl
 
-one-leads : (q : Asked) (h : Head) (t : Tables) (list : List ℕ) → Leads (keep h t) (didOne q h t list) (keptOne q h t list)
+pub one-leads : (q : Asked) (h : Head) (t : Tables) (list : List ℕ) → Leads (keep h t) (didOne q h t list) (keptOne q h t list)
 unfolding didOne events one refusedOne
 one-leads (changes q) h t list = rw (one-change q h t list) (change-leads q h t list)
 one-leads (opens u r) h t list = rw (one-open u r h t list) (leads-none (keep h t))
 one-leads nothing h t list = leads-none (keep h t)
 
-all-leads : (qs : List Asked) (h : Head) (t : Tables) (list : List ℕ) → Leads (keep h t) (didAll qs h t list) (keptAll qs h t list)
+pub all-leads : (qs : List Asked) (h : Head) (t : Tables) (list : List ℕ) → Leads (keep h t) (didAll qs h t list) (keptAll qs h t list)
 unfolding all didAll
 all-leads [] h t list = leads-none (keep h t)
 all-leads (q ∷ qs) h t list =

@@ -21,3 +21,4 @@ pub mod ByteHoles
 pub mod CallLaws
 pub mod RunLaws
 pub mod RefusedLaws
+pub mod ServeLaws

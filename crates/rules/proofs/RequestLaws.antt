@@ -55,6 +55,11 @@ common-none t b xs h =
     let (c, h2) = verdict-none Unsound (not (sound b)) xs h1 in
     (a, not-false (sound b) c, h2)
 
+-- where 13 and 12 are known not to be, the rest of the table decides
+pub common-passed : (t : Tables) (b : Book) (xs : Rows) → short t ≡ false → sound b ≡ true → verdict (common t b ++ xs) ≡ verdict xs
+unfolding common verdict
+common-passed t b xs l s = rw (l, s)
+
 -- the user and the resource are there
 pub such : (b : Book) (u r : ℕ) → noSuch b u r ≡ false → (u < b .users) × (r < length (b .resources))
 unfolding noSuch
