@@ -1,6 +1,6 @@
 -- The laws of a table of rows of bytes, over the width and what a row is read as. Assumes nothing.
-use mathlib.Core.Path.{_≡_, refl, sym, ap, ap₂, _∙_}
-use mathlib.Core.List.{List, [], _∷_, _++_, append-assoc, append-nil, map, List·Memᴰ, List·Memᴰ·head, List·Memᴰ·tail}
+use mathlib.Core.Path.{_≡_, refl, sym, ap, ap₂, _∙_, subst}
+use mathlib.Core.List.{List, [], _∷_, _++_, append-assoc, append-nil, map, List·Memᴰ, List·Memᴰ·head, List·Memᴰ·tail, List·Memᴰ·not-nil}
 use Prim.Native.Nat.{ℕ, zero, suc, _+_, _*_, _≤_, _<_}
 use native.Mathlib.Nat.{suc-mul, zero-mul, zero-add, add-comm, add-assoc, add-zero, add-mul, add-suc, suc-add, not-suc-le-zero, le-of-suc-le-suc}
 use native.Mathlib.Omega.{arith}
@@ -120,23 +120,32 @@ rows-append w f (r ∷ rs) n t h l =
 
 -- ---- whole tables: rows that `row` writes and f reads, all of w bytes
 
-module _ {ℓ} {A : Type ℓ} (w : ℕ) (row : A → List ℕ) (f : List ℕ → A) (wide : (x : A) → length (row x) ≡ w) where
-  wide-rows : (xs : List A) → Wide w (map row xs)
-  wide-rows [] = tt
-  wide-rows (x ∷ xs) = (wide x, wide-rows xs)
+pub length-written {ℓ} : {A : Type ℓ} (w : ℕ) (row : A → List ℕ) → ((x : A) → length (row x) ≡ w) → (xs : List A) → length (joined (map row xs)) ≡ length xs * w
+length-written w row wide xs = length-joined w (map row xs) (go xs) ∙ ap (λ (n : ℕ). n * w) (length-map xs row)
+  where
+    go : (xs : List _) → Wide w (map row xs)
+    go [] = tt
+    go (x ∷ xs) = (wide x, go xs)
 
-  pub length-written : (xs : List A) → length (joined (map row xs)) ≡ length xs * w
-  length-written xs = length-joined w (map row xs) (wide-rows xs) ∙ ap (λ (n : ℕ). n * w) (length-map xs row)
-
+module _ {ℓ} {A : Type ℓ} (w : ℕ) (row : A → List ℕ) (f : List ℕ → A) where
   -- reading what was written, whatever comes behind it
-  pub rows-read : (xs : List A) (rest : List ℕ) → ((x : A) → List·Memᴰ x xs → f (row x) ≡ x) → rowsOf w f (length xs) (joined (map row xs) ++ rest) ≡ xs
+  pub rows-read : (xs : List A) (rest : List ℕ) → ((x : A) → List·Memᴰ x xs → (length (row x) ≡ w) × (f (row x) ≡ x))
+      → rowsOf w f (length xs) (joined (map row xs) ++ rest) ≡ xs
   unfolding rowsOf joined
   rows-read [] rest h = refl
   rows-read (x ∷ xs) rest h =
-      let s : (row x ++ joined (map row xs)) ++ rest ≡ row x ++ (joined (map row xs) ++ rest) = append-assoc (row x) (joined (map row xs)) rest in
-      rw (s, take-at (row x) (joined (map row xs) ++ rest) w (wide x), drop-at (row x) (joined (map row xs) ++ rest) w (wide x), h x (List·Memᴰ·head refl), rows-read xs rest (λ y m. h y (List·Memᴰ·tail m)))
+      let (wide, same) = h x (List·Memᴰ·head refl) in
+      let behind : List ℕ = joined (map row xs) ++ rest in
+      rw (
+        append-assoc (row x) (joined (map row xs)) rest,
+        take-at (row x) behind w wide,
+        drop-at (row x) behind w wide,
+        same,
+        rows-read xs rest (λ y m. h y (List·Memᴰ·tail m)),
+      )
 
-  pub rows-laid : (xs : List A) (t : List ℕ) → ((x : A) → List·Memᴰ x xs → f (row x) ≡ x) → rowsOf w f (length xs) (stored 0 (joined (map row xs)) t) ≡ xs
+  pub rows-laid : (xs : List A) (t : List ℕ) → ((x : A) → List·Memᴰ x xs → (length (row x) ≡ w) × (f (row x) ≡ x))
+      → rowsOf w f (length xs) (stored 0 (joined (map row xs)) t) ≡ xs
   unfolding stored
   rows-laid xs t h = rows-read xs (drop (0 + length (joined (map row xs))) t) h
 
@@ -152,10 +161,36 @@ module _ {ℓ} {A : Type ℓ} (w : ℕ) (row : A → List ℕ) (f : List ℕ →
 
     pub rows-same : (n : ℕ) (t : List ℕ) → Bytes t → n * w ≤ length t → stored 0 (joined (map row (rowsOf w f n t))) t ≡ t
     unfolding stored
-    rows-same n t b l =
-        rw (rows-written n t b l, length-take-le (n * w) t l, zero-add) (take-append-drop (n * w) t)
+    rows-same n t b l = rw (rows-written n t b l, length-take-le (n * w) t l, zero-add) (take-append-drop (n * w) t)
+
+-- what holds of every row of at most w bytes
+pub rows-all {ℓ ℓ′} : {A : Type ℓ} (w : ℕ) (f : List ℕ → A) (P : A → Type ℓ′) → ((r : List ℕ) → length r ≤ w → P (f r))
+    → (n : ℕ) (t : List ℕ) {x : A} → List·Memᴰ x (rowsOf w f n t) → P x
+unfolding rowsOf
+rows-all w f P h zero t m = absurd (List·Memᴰ·not-nil m)
+rows-all w f P h (suc n) t (List·Memᴰ·head e) = subst P (sym e) (h (take w t) (simp length-take (omega arith)))
+rows-all w f P h (suc n) t (List·Memᴰ·tail m) = rows-all w f P h n (drop w t) m
+
+-- ---- rows that are bytes
+
+abbrev pub AllBytes : List (List ℕ) → Type 0
+AllBytes [] = Unit {0}
+AllBytes (r ∷ rs) = Bytes r × AllBytes rs
+
+pub bytes-all : (rs : List (List ℕ)) → AllBytes rs → Bytes (joined rs)
+unfolding joined
+bytes-all [] h = bytes-nil
+bytes-all (r ∷ rs) h = bytes-append r (joined rs) (h .0) (bytes-all rs (h .1))
 
 pub bytes-joined {ℓ} : {A : Type ℓ} (row : A → List ℕ) → ((x : A) → Bytes (row x)) → (xs : List A) → Bytes (joined (map row xs))
-unfolding joined
-bytes-joined row h [] = bytes-nil
-bytes-joined row h (x ∷ xs) = bytes-append (row x) (joined (map row xs)) (h x) (bytes-joined row h xs)
+bytes-joined row h xs = bytes-all (map row xs) (go xs)
+  where
+    go : (xs : List _) → AllBytes (map row xs)
+    go [] = tt
+    go (x ∷ xs) = (h x, go xs)
+
+pub bytes-stored : (k : ℕ) (bs t : List ℕ) → Bytes bs → Bytes t → Bytes (stored k bs t)
+unfolding stored
+bytes-stored k bs t h b =
+    bytes-append (take k t) (bs ++ drop (k + length bs) t) (bytes-take k t b)
+    (bytes-append bs (drop (k + length bs) t) h (bytes-drop (k + length bs) t b))

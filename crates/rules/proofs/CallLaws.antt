@@ -24,8 +24,8 @@ use Rattle.rules.specs.declared.Refusal.{Refusal}
 use Rattle.rules.specs.declared.Refusal.the-variants.{ShortTable, Unsound}
 use Rattle.rules.proofs.AccessLaws.{work-access}
 use Rattle.rules.proofs.RequestLaws.{verdict-none, accepted-long, work-sound}
-use Rattle.rules.proofs.ByteLaws.{sound-book-laid}
-use Rattle.rules.proofs.ByteHoles.{sound-long-laid, head-read}
+use Rattle.rules.proofs.ByteLaws.{sound-book-laid, short-laid, sound-room}
+use Rattle.rules.proofs.WriteLaws.{head-read}
 
 -- ---- from one kept book to the next
 
@@ -82,7 +82,7 @@ module _ (q : Request) (h : Head) (t : Tables) (list : List ℕ) where
       go none e =
           record {
             sound′ = λ k. ap sound (change-book e) ∙ sound-after e;
-            long = sound-long-laid (work q (bookIn h t) .book) t (sound-after e) (long-before e) ∙ sym (long-before e);
+            long = short-laid (work q (bookIn h t) .book) t (sound-room (work q (bookIn h t) .book) t (sound-after e) (long-before e));
             lists = ap access (change-book e) ∙ work-access q (bookIn h t);
           }
 
@@ -167,7 +167,7 @@ read-leads bs s = go (refusalRead (s .tables) bs) refl
     go none e =
         let same = read-book (s .tables) bs e in
         let (l, k) = read-none (s .tables) bs e in
-        record { sound′ = λ h. ap sound same ∙ k; long = sound-long-laid (read bs) (s .tables) k l ∙ sym l; lists = ap access same }
+        record { sound′ = λ h. ap sound same ∙ k; long = short-laid (read bs) (s .tables) (sound-room (read bs) (s .tables) k l); lists = ap access same }
 
 -- ---- any call
 

@@ -14,10 +14,10 @@ pub mod SoundLaws
 pub mod ChainLaws
 pub mod RowLaws
 pub mod ByteLaws
+pub mod WriteLaws
 pub mod AccessLaws
 pub mod GroupedLaws
 pub mod RequestLaws
-pub mod ByteHoles
 pub mod CallLaws
 pub mod RunLaws
 pub mod RefusedLaws

@@ -1,17 +1,18 @@
 -- The rows of the five tables: what is written is read back, and what is read is written back.
 -- Assumes nothing.
-use Prim.Native.Nat.{ℕ, zero, suc, _+_, _*_, _^_, _≤_, _<_}
+use Prim.Native.Nat.{ℕ, _^_, _≤_, _<_}
 use mathlib.Core.Path.{_≡_, refl, sym, ap, ap₂, _∙_}
-use mathlib.Core.List.{List, [], _∷_, _++_}
+use mathlib.Core.List.{List, [], _∷_, List·Memᴰ}
 use native.Mathlib.Nat.{mod-eq-of-lt}
 use native.Mathlib.Omega.{arith}
-use lib.ListN.{length, getD, take, drop, drop-of-length-le}
+use lib.ListN.{length, getD, take, drop-of-length-le}
 use Rattle.rows.specs.Number.{number, bytesOf, cell}
-use Rattle.rows.proofs.Laws.{number-bytes, length-bytes}
-use Rattle.rows.proofs.Fields.{Bytes, row-number, bytes-are, cells, fields, Fit, sum, cells-row, fields-row, bytes-fields}
+use Rattle.rows.proofs.Laws.{number-bytes}
+use Rattle.rows.proofs.Fields.{Bytes, row-number, bytes-are, fields, cells-row, fields-row, bytes-fields}
+use Rattle.rows.proofs.Table.{rows-all}
 use Rattle.rules.specs.Layer.{token}
 use Rattle.rules.specs.Book.{Resource}
-use Rattle.rules.specs.Bytes.{setRow, innerRow, outerRow, resourceRow, tokenOf, resourceOf}
+use Rattle.rules.specs.Bytes.{setRow, innerRow, outerRow, resourceRow, tokenOf, resourceOf, tokensIn}
 use Rattle.rules.specs.declared.Token.{Token}
 
 -- ---- the numbers of a row fit its bytes
@@ -61,9 +62,9 @@ resource-wide x = refl
 -- ---- reading what was written
 
 -- an outer token's row has no kind byte
-pub no-kind : (r : List ℕ) → length r ≡ 4 → cell 1 4 r ≡ 0
+pub no-kind : (r : List ℕ) → length r ≤ 4 → cell 1 4 r ≡ 0
 unfolding cell number
-no-kind r e = ap (λ (z : List ℕ). number (take 1 z)) (drop-of-length-le r {i = 4} (omega arith))
+no-kind r h = ap (λ (z : List ℕ). number (take 1 z)) (drop-of-length-le r {i = 4} h)
 
 pub set-read : (s : ℕ) → s < 256 ^ 8 → number (setRow s) ≡ s
 unfolding setRow
@@ -82,7 +83,7 @@ outer-read t f k =
     ap tokenOf (outer-fields t)
     ∙ ap₂ (λ (z : List ℕ) (n : ℕ). token (getD z 0 0) (getD z 1 0) n)
     (cells-row (2 ∷ 2 ∷ []) (t .from ∷ t .to ∷ []) (f .from<, (f .to<, tt)))
-    (no-kind (fields (2 ∷ 2 ∷ []) (t .from ∷ t .to ∷ [])) (ap length (sym (outer-fields t)) ∙ outer-wide t) ∙ sym k)
+    (no-kind (fields (2 ∷ 2 ∷ []) (t .from ∷ t .to ∷ [])) (omega (arith, ap length (outer-fields t), outer-wide t)) ∙ sym k)
 
 pub resource-read : (x : Resource) → ResourceFits x → resourceOf (resourceRow x) ≡ x
 unfolding resourceOf
@@ -123,3 +124,8 @@ outer-bytes t = rw outer-fields (bytes-fields (2 ∷ 2 ∷ []) (t .from ∷ t .t
 
 pub resource-bytes : (x : Resource) → Bytes (resourceRow x)
 resource-bytes x = rw resource-fields (bytes-fields (8 ∷ 2 ∷ 2 ∷ []) (x .list ∷ x .inner ∷ x .outer ∷ []))
+
+-- every token of an outer table has kind 0, whatever its bytes
+pub outer-plain : (n : ℕ) (s : List ℕ) {t : Token} → List·Memᴰ t (tokensIn 4 n s) → t .kind ≡ 0
+unfolding tokensIn tokenOf
+outer-plain n s m = rows-all 4 tokenOf (λ t. t .kind ≡ 0) no-kind n s m

@@ -12,6 +12,7 @@ use lib.ListN.{length, take, drop, getD, length-append}
 use lib.Seq.{take-at, drop-at, drop-drop, length-take-le}
 use Rattle.rows.specs.Number.{stored, joined}
 use Rattle.rows.proofs.Laws.{stored-none}
+use Rattle.rows.proofs.Table.{length-written}
 use Rattle.rules.specs.Book.{Book}
 use Rattle.rules.specs.Sound.{sound}
 use Rattle.rules.specs.Requests.{Done}
@@ -29,7 +30,6 @@ use Rattle.rules.specs.declared.Changed.the-variants as changed
 use Rattle.rules.specs.declared.Opened.{Opened}
 use Rattle.rules.specs.declared.Opened.the-variants as shown
 use Rattle.rules.proofs.CallLaws.{Leads, keptOne, keptAll, one-change, one-open, one-leads}
-use Rattle.rules.proofs.ByteHoles.{length-written}
 
 -- ---- a request's own call
 
