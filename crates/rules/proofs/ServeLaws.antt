@@ -3,43 +3,46 @@
 -- Assumes nothing.
 use Prim.Native.Nat.{ℕ, zero, suc, _+_, _*_, _/_, _≤_}
 use mathlib.Core.Path.{_≡_, refl, sym, ap, ap₂, _∙_, subst}
-use mathlib.Core.Bool.{Bool, true, false}
+use mathlib.Core.Bool.{Bool, true, false, not}
 use mathlib.Core.List.{List, [], _∷_, _++_, map, append-assoc, append-nil}
 use mathlib.Core.Option.{Option, some, none}
 use native.Mathlib.Nat.{zero-add}
 use native.Mathlib.Omega.{arith}
+use lib.Dec.{eqb, ltb}
 use lib.ListN.{length, take, drop, getD, length-append}
 use lib.Seq.{take-at, drop-at, drop-drop, length-take-le}
 use Rattle.rows.specs.Number.{stored, joined}
-use Rattle.rows.proofs.Laws.{stored-none}
+use Rattle.rows.proofs.Laws.{stored-none, stored-left, stored-first, stored-both}
 use Rattle.rows.proofs.Table.{length-written}
 use Rattle.rules.specs.Book.{Book}
 use Rattle.rules.specs.Sound.{sound}
+use Rattle.rules.specs.Holders.{view}
 use Rattle.rules.specs.Requests.{Done}
 use Rattle.rules.specs.Open.{innerChain, outerChain}
 use Rattle.rules.specs.Bytes.{Tables, bookIn}
-use Rattle.rules.specs.Refusals.{Request, short, work, own, limits, refusal, refusalOpen, opened, number, viewTold}
+use Rattle.rules.specs.Refusals.{Request, short, verdict, common, noSuch, work, own, limits, refusal, refusalOpen, opened, number, viewNumber, viewTold}
 use Rattle.rules.specs.Calls.{orderRow, orderRows, rowsLent, Change, change, changeBy, Shown, openCall, openBy, Asked, changes, opens, nothing, askedIn, One, one, changeOne, openOne, refusedOne, chainRows, All, all, Service, serveCall, serveBy, refusalServe}
-use Rattle.rules.specs.Runs.{Kept, keep, bookOf, Call, to-change, to-open, after, run, Event, didOne, didAll, events, history}
+use Rattle.rules.specs.Runs.{Kept, keep, bookOf, Call, to-change, to-open, to-serve, headServed, after, run, Event, didOne, didAll, didServe, events, history}
 use Rattle.rules.specs.declared.Head.{Head}
 use Rattle.rules.specs.declared.Order.{Order}
 use Rattle.rules.specs.declared.Refusal.{Refusal}
-use Rattle.rules.specs.declared.Refusal.the-variants.{NoSuch}
+use Rattle.rules.specs.declared.Refusal.the-variants.{NoSuch, Closed, ShortList}
 use Rattle.rules.specs.declared.Changed.{Changed}
 use Rattle.rules.specs.declared.Changed.the-variants as changed
 use Rattle.rules.specs.declared.Opened.{Opened}
 use Rattle.rules.specs.declared.Opened.the-variants as shown
+use Rattle.rules.proofs.RequestLaws.{common-none, common-passed}
 use Rattle.rules.proofs.CallLaws.{Leads, keptOne, keptAll, one-change, one-open, one-leads}
 
 -- ---- a request's own call
 
--- an open of its own is lent a list of numbers: one for each order row
-abbrev pub cells : List ℕ → List ℕ
-cells list = take (rowsLent list) list
+-- an open of its own is lent a list of numbers: as many as there are order rows
+abbrev pub numbersLent : List ℕ → List ℕ
+numbersLent list = take (rowsLent list) list
 
 unfoldable pub single : Asked → List ℕ → List Call
 single (changes q) list = to-change q list ∷ []
-single (opens u r) list = to-open u r (cells list) ∷ []
+single (opens u r) list = to-open u r (numbersLent list) ∷ []
 single nothing list = []
 
 -- an answer as a row: the refusal's number and its view, or the count of its rows
@@ -57,7 +60,7 @@ openedRow (shown.No r) = refusedRow r
 -- what the own call answers
 unfoldable pub ownRow : Asked → Kept → List ℕ → List ℕ
 ownRow (changes q) s list = changedRow (change q (s .head) (s .tables) list .answer)
-ownRow (opens u r) s list = openedRow (openCall u r (s .head) (s .tables) (cells list) .answer)
+ownRow (opens u r) s list = openedRow (openCall u r (s .head) (s .tables) (numbersLent list) .answer)
 ownRow nothing s list = refusedRow NoSuch
 
 -- the rows that an accepted one gives
@@ -71,7 +74,7 @@ openedOrders (shown.No k) b u r = []
 
 unfoldable pub ownOrders : Asked → Kept → List ℕ → List ℕ
 ownOrders (changes q) s list = changedOrders (change q (s .head) (s .tables) list .answer) (work q (bookOf s))
-ownOrders (opens u r) s list = openedOrders (openCall u r (s .head) (s .tables) (cells list) .answer) (bookOf s) u r
+ownOrders (opens u r) s list = openedOrders (openCall u r (s .head) (s .tables) (numbersLent list) .answer) (bookOf s) u r
 ownOrders nothing s list = []
 
 -- ---- one of several requests
@@ -122,22 +125,22 @@ change-gives q h t list = go (refusal t (bookIn h t) (rowsLent list) q)
     go none = record { row = refl; counted = refl; orders = refl; count = length-orders (d .orders) }
 
 -- an open is lent as many numbers as there are order rows
-open-cells : (u r : ℕ) (h : Head) (t : Tables) (list : List ℕ)
-    → openCall u r h t (cells list) ≡ openBy (refusalOpen t (bookIn h t) (rowsLent list) u r) (bookIn h t) u r (cells list)
+open-lent : (u r : ℕ) (h : Head) (t : Tables) (list : List ℕ)
+    → openCall u r h t (numbersLent list) ≡ openBy (refusalOpen t (bookIn h t) (rowsLent list) u r) (bookIn h t) u r (numbersLent list)
 unfolding openCall rowsLent
-open-cells u r h t list =
-    ap (λ (n : ℕ). openBy (refusalOpen t (bookIn h t) n u r) (bookIn h t) u r (cells list)) (length-take-le (rowsLent list) list (omega arith))
+open-lent u r h t list =
+    ap (λ (n : ℕ). openBy (refusalOpen t (bookIn h t) n u r) (bookIn h t) u r (numbersLent list)) (length-take-le (rowsLent list) list (omega arith))
 
 open-gives : (u r : ℕ) (h : Head) (t : Tables) (list : List ℕ)
     → Gives (one (opens u r) h t list) (ownRow (opens u r) (keep h t) list) (ownOrders (opens u r) (keep h t) list) list
 unfolding one ownRow ownOrders openBy openOne openedRow openedOrders bookOf opened
-open-gives u r h t list = rw (open-cells u r h t list) (go (refusalOpen t (bookIn h t) (rowsLent list) u r))
+open-gives u r h t list = rw (open-lent u r h t list) (go (refusalOpen t (bookIn h t) (rowsLent list) u r))
   where
     b : Book
     b = bookIn h t
 
     a : Option Refusal → Opened
-    a z = openBy z b u r (cells list) .answer
+    a z = openBy z b u r (numbersLent list) .answer
 
     go : (z : Option Refusal) → Gives (openOne z b u r h t list) (openedRow (a z)) (openedOrders (a z) b u r) list
     go (some k) = refused-gives k h t list
@@ -168,22 +171,6 @@ one-history (opens u r) h t list = refl
 one-history nothing h t list = refl
 
 -- ---- all of them
-
-pub stored-left : (bs t : List ℕ) → drop (length bs) (stored 0 bs t) ≡ drop (length bs) t
-unfolding stored
-stored-left bs t = drop-at bs (drop (0 + length bs) t) (length bs) refl ∙ ap (λ (n : ℕ). drop n t) (zero-add (length bs))
-
-pub stored-first : (bs t : List ℕ) → take (length bs) (stored 0 bs t) ≡ bs
-unfolding stored
-stored-first bs t = take-at bs (drop (0 + length bs) t) (length bs) refl
-
--- one stretch behind the other
-pub stored-both : (xs ys t : List ℕ) → xs ++ stored 0 ys (drop (length xs) t) ≡ stored 0 (xs ++ ys) t
-unfolding stored
-stored-both xs ys t =
-    let n : length xs + (0 + length ys) ≡ 0 + length (xs ++ ys) = omega (arith, length-append xs ys) in
-    sym (append-assoc xs ys (drop (0 + length ys) (drop (length xs) t)))
-    ∙ ap (λ (x : List ℕ). (xs ++ ys) ++ x) (drop-drop (0 + length ys) (length xs) t ∙ ap (λ (k : ℕ). drop k t) n)
 
 -- the order rows left
 unfoldable pub left : Asked → Kept → List ℕ → List ℕ
@@ -258,3 +245,55 @@ all-history (q ∷ qs) h t list =
     let i : es ≡ history (calls qs s (left q (keep h t) list)) s =
     as-own q h t list (λ k l. es ≡ history (calls qs k l) k) (all-history qs (o .head) (o .tables) (rest q h t list)) in
     ap₂ (λ (x y : List Event). x ++ y) (one-history q h t list) i ∙ sym (history-append (single q list) (calls qs s (left q (keep h t) list)) (keep h t))
+
+-- ---- the call that serves several requests
+
+pub record AsCalls (requests : List ℕ) (s : Kept) (answers list : List ℕ) (c : Service) : Type 0 where
+  pub kept : after (to-serve requests answers list) s ≡ run (calls (askedIn requests) s list) s
+  pub told : events (to-serve requests answers list) s ≡ history (calls (askedIn requests) s list) s
+  pub rows : c .answers ≡ stored 0 (each ownRow (askedIn requests) s list) answers
+  pub stores : c .orders ≡ stored 0 (each ownOrders (askedIn requests) s list) list
+
+pub serve-is-calls : (requests : List ℕ) (h : Head) (t : Tables) (answers list : List ℕ) → refusalServe t (bookIn h t) requests answers ≡ none
+    → AsCalls requests (keep h t) answers list (serveCall requests h t answers list)
+unfolding serveCall serveBy after events headServed didServe
+serve-is-calls requests h t answers list e =
+    let a : All = all (askedIn requests) h t list in
+    let v : Serves (askedIn requests) (keep h t) list a = all-serves (askedIn requests) h t list in
+    let go : serveCall requests h t answers list ≡ serveBy none a t answers list = ap (λ (z : Option Refusal). serveBy z a t answers list) e in
+    record {
+      kept = ap (λ (c : Service). keep (headServed (c .answer) h) (c .tables)) go ∙ v .kept;
+      told = ap (λ (c : Service). didServe (c .answer) (didAll (askedIn requests) h t list)) go ∙ all-history (askedIn requests) h t list;
+      rows = ap (λ (c : Service). c .answers) go ∙ ap (λ (x : List ℕ). stored 0 x answers) (v .rows);
+      stores = ap (λ (c : Service). c .orders) go ∙ v .stores;
+    }
+
+-- ---- "makes 13 and 12 once, first": neither can come to be among the requests served
+
+pub record Ready (s : Kept) : Type 0 where
+  pub long : short (s .tables) ≡ false
+  pub sound′ : sound (bookOf s) ≡ true
+
+pub serve-ready : (requests answers : List ℕ) (h : Head) (t : Tables) → refusalServe t (bookIn h t) requests answers ≡ none → Ready (keep h t)
+unfolding refusalServe bookOf
+serve-ready requests answers h t e =
+    let (l, s, x) = common-none t (bookIn h t) ((ShortList, ltb (rowsLent answers) (rowsLent requests)) ∷ []) e in
+    record { long = l; sound′ = s }
+
+pub ready-one : (q : Asked) (h : Head) (t : Tables) (list : List ℕ) → Ready (keep h t) → Ready (keptOne q h t list)
+ready-one q h t list r = let m = one-leads q h t list in record { long = m .long ∙ r .long; sound′ = m .sound′ (r .sound′) }
+
+pub ready-refusal : (s : Kept) (room : ℕ) (q : Request) → Ready s
+    → refusal (s .tables) (bookOf s) room q ≡ verdict (own q (bookOf s) ++ limits room (work q (bookOf s)))
+unfolding refusal common
+ready-refusal s room q r = common-passed (s .tables) (bookOf s) (own q (bookOf s) ++ limits room (work q (bookOf s))) (r .long) (r .sound′)
+
+pub ready-open : (s : Kept) (room u r : ℕ) → Ready s
+    → refusalOpen (s .tables) (bookOf s) room u r
+    ≡ verdict
+    ((NoSuch, noSuch (bookOf s) u r)
+    ∷ (Closed (view (bookOf s) u r), not (eqb (viewNumber (view (bookOf s) u r)) 0))
+    ∷ (ShortList, ltb room (length (opened (bookOf s) u r)))
+    ∷ [])
+unfolding refusalOpen
+ready-open s room u r k = common-passed (s .tables) (bookOf s) _ (k .long) (k .sound′)
