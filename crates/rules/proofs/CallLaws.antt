@@ -2,7 +2,7 @@
 -- Assumes nothing.
 use Prim.Native.Nat.{ℕ, _*_}
 use mathlib.Core.Path.{_≡_, refl, sym, ap, _∙_}
-use mathlib.Core.Bool.{Bool, true, false, _&&_, not}
+use mathlib.Core.Bool.{true, false, _&&_, not}
 use mathlib.Core.List.{List, [], _∷_, _++_}
 use mathlib.Core.Option.{Option, some, none}
 use lib.Dec.{eqb, leb}
@@ -10,12 +10,11 @@ use lib.ListN.{length, drop}
 use borrow.Author.Tests.{not-false}
 use Rattle.sets.proofs.Laws.{both}
 use Rattle.rows.specs.Number.{cell}
-use Rattle.rules.specs.Book.{Book}
 use Rattle.rules.specs.Sound.{sound}
 use Rattle.rules.specs.Requests.{Done}
-use Rattle.rules.specs.Bytes.{Tables, bookIn, headOf, laid, headIn, start, read, isBook}
+use Rattle.rules.specs.Bytes.{Tables, bookIn, laid, headIn, start, read, isBook}
 use Rattle.rules.specs.Refusals.{Request, short, work, refusal, refusalOpen, refusalRead}
-use Rattle.rules.specs.Calls.{rowsLent, Change, change, changeBy, Load, readCall, loadBy, Asked, changes, opens, nothing, askedIn, One, one, changeOne, openOne, refusedOne, All, all, Service, serveCall, serveBy, refusalServe}
+use Rattle.rules.specs.Calls.{rowsLent, change, changeBy, readCall, loadBy, Asked, changes, opens, nothing, askedIn, one, changeOne, openOne, refusedOne, All, all, serveCall, serveBy, refusalServe}
 use Rattle.rules.specs.Runs.{Kept, keep, bookOf, Call, to-change, to-view, to-open, to-serve, to-read, to-write, to-show, headChanged, headServed, headLoaded, after, Access, access, listed, Event, did, loads, told, didChange, didOne, didAll, didServe, didLoad, events}
 use Rattle.rules.specs.declared.Head.{Head}
 use Rattle.rules.specs.declared.Changed.{Changed}
@@ -68,10 +67,14 @@ module _ (q : Request) (h : Head) (t : Tables) (list : List ℕ) where
   sound-after : refusal t (bookIn h t) (rowsLent list) q ≡ none → sound (work q (bookIn h t) .book) ≡ true
   sound-after e = work-sound t (bookIn h t) (rowsLent list) q e
 
-  -- an accepted request leaves the book that the rules give
-  pub change-book : refusal t (bookIn h t) (rowsLent list) q ≡ none → bookOf (kept-by none) ≡ work q (bookIn h t) .book
+  laid-book : refusal t (bookIn h t) (rowsLent list) q ≡ none → bookOf (kept-by none) ≡ work q (bookIn h t) .book
   unfolding changeBy headChanged bookOf
-  change-book e = sound-book-laid (work q (bookIn h t) .book) t (sound-after e)
+  laid-book e = sound-book-laid (work q (bookIn h t) .book) t (sound-after e)
+
+  -- an accepted request leaves the book that the rules give
+  pub change-book : refusal t (bookIn h t) (rowsLent list) q ≡ none → bookOf (after (to-change q list) (keep h t)) ≡ work q (bookIn h t) .book
+  unfolding after change
+  change-book e = ap (λ z. bookOf (kept-by z)) e ∙ laid-book e
 
   pub change-leads : Leads (keep h t) (events (to-change q list) (keep h t)) (after (to-change q list) (keep h t))
   unfolding after events change changeBy headChanged didChange told bookOf
@@ -81,9 +84,9 @@ module _ (q : Request) (h : Head) (t : Tables) (list : List ℕ) where
       go (some r) e = leads-none (keep h t)
       go none e =
           record {
-            sound′ = λ k. ap sound (change-book e) ∙ sound-after e;
+            sound′ = λ k. ap sound (laid-book e) ∙ sound-after e;
             long = short-laid (work q (bookIn h t) .book) t (sound-room (work q (bookIn h t) .book) t (sound-after e) (long-before e));
-            lists = ap access (change-book e) ∙ work-access q (bookIn h t);
+            lists = ap access (laid-book e) ∙ work-access q (bookIn h t);
           }
 
 -- ---- several requests
@@ -155,6 +158,15 @@ read-none t bs h =
 
 pub read-book : (t : Tables) (bs : List ℕ) → refusalRead t bs ≡ none → bookIn (headIn bs) (laid (read bs) t) ≡ read bs
 read-book t bs h = ap (λ (k : Head). bookIn k (laid (read bs) t)) (sym (head-read bs)) ∙ sound-book-laid (read bs) t (read-none t bs h .1)
+
+-- and the host then keeps that book, whatever it kept before
+pub read-loads : (bs : List ℕ) (s : Kept) → refusalRead (s .tables) bs ≡ none → bookOf (after (to-read bs) s) ≡ read bs
+unfolding after readCall loadBy headLoaded bookOf
+read-loads bs s e =
+    ap (λ z. bookOf (keep (headLoaded (loadBy z bs (s .tables) .answer) (s .head)) (loadBy z bs (s .tables) .tables))) e ∙ read-book (s .tables) bs e
+
+pub read-sound : (bs : List ℕ) (s : Kept) → refusalRead (s .tables) bs ≡ none → sound (bookOf (after (to-read bs) s)) ≡ true
+read-sound bs s e = ap sound (read-loads bs s e) ∙ read-none (s .tables) bs e .1
 
 read-leads : (bs : List ℕ) (s : Kept) → Leads s (events (to-read bs) s) (after (to-read bs) s)
 unfolding events after readCall loadBy headLoaded didLoad told bookOf

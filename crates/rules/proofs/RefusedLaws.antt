@@ -1,31 +1,26 @@
 -- "A refusal changes nothing but a lent cell that takes its number": each call that answers a refusal leaves all that it was lent as it was.
 -- Assumes nothing.
-use Prim.Native.Nat.{ℕ, zero, suc}
+use Prim.Native.Nat.{ℕ}
 use mathlib.Core.Path.{_≡_, refl, sym, ap, _∙_}
-use mathlib.Core.List.{List, [], _∷_}
+use mathlib.Core.List.{List, []}
 use mathlib.Core.Option.{Option, some, none}
 use native.Mathlib.Omega.{arith}
 use lib.ListN.{length}
-use Rattle.rules.specs.Book.{Book}
-use Rattle.rules.specs.Requests.{Done}
 use Rattle.rules.specs.Bytes.{Tables, bookIn, read}
 use Rattle.rules.specs.Refusals.{Request, number, work, refusal, refusalOpen, refusalRead, refusalWrite, refusalSection}
-use Rattle.rules.specs.Calls.{rowsLent, Change, change, changeBy, viewCall, Shown, openCall, openBy, Part, sectionCall, partBy, Load, readCall, loadBy, Write, writeCall, writeBy, askedIn, All, all, Service, serveCall, serveBy, refusalServe}
+use Rattle.rules.specs.Calls.{rowsLent, Change, change, changeBy, viewCall, Shown, openCall, openBy, sectionCall, partBy, Load, readCall, loadBy, Write, writeCall, writeBy, askedIn, all, Service, serveCall, serveBy, refusalServe}
 use Rattle.rules.specs.Runs.{Kept, keep, Call, to-change, to-view, to-open, to-serve, to-read, to-write, to-show, headChanged, headServed, headLoaded, after, access, didChange, didAll, didServe, didLoad, events}
 use Rattle.rules.specs.declared.Head.{Head}
 use Rattle.rules.specs.declared.Refusal.{Refusal}
 use Rattle.rules.specs.declared.Refusal.the-variants.{ShortTable, Unsound, NoSuch, EmptyList, UsersFull, ResourcesFull, Listed, NotListed, GroupsFull, InnerTokensFull, OuterTokensFull, Closed, ShortList}
 use Rattle.rules.specs.declared.Changed.{Changed}
 use Rattle.rules.specs.declared.Changed.the-variants as changed
-use Rattle.rules.specs.declared.Viewed.{Viewed}
 use Rattle.rules.specs.declared.Viewed.the-variants as viewed
-use Rattle.rules.specs.declared.Opened.{Opened}
 use Rattle.rules.specs.declared.Opened.the-variants as shown
 use Rattle.rules.specs.declared.Served.{Served}
 use Rattle.rules.specs.declared.Served.the-variants as served
 use Rattle.rules.specs.declared.Loaded.{Loaded}
 use Rattle.rules.specs.declared.Loaded.the-variants as loaded
-use Rattle.rules.specs.declared.Stored.{Stored}
 use Rattle.rules.specs.declared.Stored.the-variants as written
 
 -- a call answers `no r` only by its verdict, and then leaves what `unchanged` says

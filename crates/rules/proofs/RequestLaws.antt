@@ -1,10 +1,10 @@
 -- A request that is not refused takes a sound book to a sound book, which opens for exactly the lists.
 -- Assumes nothing.
-use Prim.Native.Nat.{ℕ, zero, suc, _+_, _^_, _≤_, _<_}
-use mathlib.Core.Path.{_≡_, refl, sym, ap, _∙_}
+use Prim.Native.Nat.{ℕ, _+_, _^_, _≤_, _<_}
+use mathlib.Core.Path.{_≡_, refl, _∙_}
 use mathlib.Core.Bool.{Bool, true, false, _&&_, not}
 use mathlib.Core.List.{List, [], _∷_, _++_}
-use mathlib.Core.Option.{Option, some, none, Option·some-ne-none}
+use mathlib.Core.Option.{none, Option·some-ne-none}
 use mathlib.Core.Logic.{_↔_}
 use native.Mathlib.Omega.{arith}
 use lib.Dec.{eqb, ltb, leb}
@@ -16,10 +16,10 @@ use Rattle.rules.specs.Book.{Book, resource, withList}
 use Rattle.rules.specs.Book as book
 use Rattle.rules.specs.Sound.{sound, maxUsers, maxResources, maxTokens, maxGroups}
 use Rattle.rules.specs.Derivation.{Opens}
-use Rattle.rules.specs.Requests.{Done, letIn, neighbours, grouped, join, insert, grant, revoke}
+use Rattle.rules.specs.Requests.{Done, letIn, neighbours, grouped}
 use Rattle.rules.specs.Bytes.{Tables}
 use Rattle.rules.specs.Refusals.{verdict, short, common, noSuch, Request, joins, inserts, grants, revokes, work, own, limits, refusal}
-use Rattle.rules.specs.Runs.{Access, access, listed}
+use Rattle.rules.specs.Runs.{access, listed}
 use Rattle.rules.specs.declared.Refusal.{Refusal}
 use Rattle.rules.specs.declared.Refusal.the-variants.{ShortTable, Unsound, NoSuch, EmptyList, UsersFull, ResourcesFull, Listed, NotListed, GroupsFull, InnerTokensFull, OuterTokensFull, ShortList}
 use Rattle.rules.proofs.OpensLaws.{opens-list}

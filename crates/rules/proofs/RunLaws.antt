@@ -2,23 +2,25 @@
 -- present list names that person. And the present lists are what the accepted requests say, from the lists at the start or of the last book read.
 -- Assumes nothing.
 use Prim.Native.Nat.{ℕ, zero, suc, _≤_, _<_}
-use mathlib.Core.Path.{_≡_, refl, sym, ap, _∙_}
-use mathlib.Core.Bool.{Bool, true, false}
-use mathlib.Core.List.{List, [], _∷_, _++_}
+use mathlib.Core.Path.{_≡_, refl, ap, _∙_}
+use mathlib.Core.Bool.{true}
+use mathlib.Core.List.{List, [], _∷_}
+use mathlib.Core.Option.{none}
 use mathlib.Core.Logic.{_↔_}
 use native.Mathlib.Omega.{arith}
 use lib.ListN.{length, getD}
 use Rattle.sets.specs.Sets.{has}
 use Rattle.rows.specs.Number.{rowsOf}
 use Rattle.rules.specs.Lists.{every, pairwise, numbered, upTo, tabulate, tabulateFrom}
-use Rattle.rules.specs.Book.{Book, resource, emptyBook, emptyLayer}
+use Rattle.rules.specs.Book.{resource, emptyBook, emptyLayer}
 use Rattle.rules.specs.Sound.{sound, counts, named, owned, distinct, rising, united, lateral, S1, S2, S3, S4, S5, S6, S7, S8}
 use Rattle.rules.specs.Derivation.{Opens}
 use Rattle.rules.specs.Bytes.{Tables, bookIn, headOf, setsIn, tokensIn, resourcesIn}
-use Rattle.rules.specs.Runs.{Kept, keep, bookOf, Call, after, run, Access, access, Event, told, events, history}
+use Rattle.rules.specs.Refusals.{refusalRead}
+use Rattle.rules.specs.Runs.{Kept, keep, bookOf, Call, to-read, after, run, Access, access, told, history}
 use Rattle.rules.proofs.OpensLaws.{opens-list}
 use Rattle.rules.proofs.AccessLaws.{list-at, resources-of}
-use Rattle.rules.proofs.CallLaws.{Leads, leads-none, leads-then, after-leads}
+use Rattle.rules.proofs.CallLaws.{Leads, leads-none, leads-then, after-leads, read-sound}
 
 -- ---- calls one after the other
 
@@ -45,6 +47,13 @@ pub run-opens-told : (cs : List Call) (s : Kept) → sound (bookOf s) ≡ true �
 run-opens-told cs s h r l u =
     let e = run-access cs s in
     rw (← e) (rw (list-at (bookOf (run cs s)) r) (run-opens cs s h r (rw (resources-of (bookOf (run cs s)) (told (history cs s) (access (bookOf s))) e) l) u))
+
+-- demand 3 from bytes: a host that reads a book first needs no sound book of its own
+pub read-opens : (bs : List ℕ) (s : Kept) → refusalRead (s .tables) bs ≡ none → (cs : List Call) (r : ℕ)
+    → r < length (bookOf (run (to-read bs ∷ cs) s) .resources) → (u : ℕ)
+    → Opens (bookOf (run (to-read bs ∷ cs) s)) u r ↔ (has (resource (bookOf (run (to-read bs ∷ cs) s)) r .list) u ≡ true)
+unfolding run
+read-opens bs s e cs r l u = run-opens cs (after (to-read bs) s) (read-sound bs s e) r l u
 
 -- ---- from the empty book of either mode
 

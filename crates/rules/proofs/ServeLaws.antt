@@ -1,16 +1,15 @@
 -- Several requests in one call are those calls one after the other: "makes 13 and 12 once, first, and answers each as its own call would on the order
 -- rows left".
 -- Assumes nothing.
-use Prim.Native.Nat.{ℕ, zero, suc, _+_, _*_, _/_, _≤_}
+use Prim.Native.Nat.{ℕ, _+_, _*_}
 use mathlib.Core.Path.{_≡_, refl, sym, ap, ap₂, _∙_, subst}
-use mathlib.Core.Bool.{Bool, true, false, not}
+use mathlib.Core.Bool.{true, false, not}
 use mathlib.Core.List.{List, [], _∷_, _++_, map, append-assoc, append-nil}
 use mathlib.Core.Option.{Option, some, none}
-use native.Mathlib.Nat.{zero-add}
 use native.Mathlib.Omega.{arith}
 use lib.Dec.{eqb, ltb}
 use lib.ListN.{length, take, drop, getD, length-append}
-use lib.Seq.{take-at, drop-at, drop-drop, length-take-le}
+use lib.Seq.{length-take-le}
 use Rattle.rows.specs.Number.{stored, joined}
 use Rattle.rows.proofs.Laws.{stored-none, stored-left, stored-first, stored-both}
 use Rattle.rows.proofs.Table.{length-written}
@@ -21,7 +20,7 @@ use Rattle.rules.specs.Requests.{Done}
 use Rattle.rules.specs.Open.{innerChain, outerChain}
 use Rattle.rules.specs.Bytes.{Tables, bookIn}
 use Rattle.rules.specs.Refusals.{Request, short, verdict, common, noSuch, work, own, limits, refusal, refusalOpen, opened, number, viewNumber, viewTold}
-use Rattle.rules.specs.Calls.{orderRow, orderRows, rowsLent, Change, change, changeBy, Shown, openCall, openBy, Asked, changes, opens, nothing, askedIn, One, one, changeOne, openOne, refusedOne, chainRows, All, all, Service, serveCall, serveBy, refusalServe}
+use Rattle.rules.specs.Calls.{orderRow, orderRows, rowsLent, Change, change, changeBy, openCall, openBy, Asked, changes, opens, nothing, askedIn, One, one, changeOne, openOne, refusedOne, chainRows, All, all, Service, serveCall, serveBy, refusalServe}
 use Rattle.rules.specs.Runs.{Kept, keep, bookOf, Call, to-change, to-open, to-serve, headServed, after, run, Event, didOne, didAll, didServe, events, history}
 use Rattle.rules.specs.declared.Head.{Head}
 use Rattle.rules.specs.declared.Order.{Order}
@@ -32,7 +31,7 @@ use Rattle.rules.specs.declared.Changed.the-variants as changed
 use Rattle.rules.specs.declared.Opened.{Opened}
 use Rattle.rules.specs.declared.Opened.the-variants as shown
 use Rattle.rules.proofs.RequestLaws.{common-none, common-passed}
-use Rattle.rules.proofs.CallLaws.{Leads, keptOne, keptAll, one-change, one-open, one-leads}
+use Rattle.rules.proofs.CallLaws.{keptOne, one-change, one-open, one-leads}
 
 -- ---- a request's own call
 
