@@ -50,7 +50,7 @@ leads-then {s} {m} {e} {es} {fs} p q =
 
 -- ---- join, insert, grant, revoke
 
--- "on the order rows left" is list
+-- the request q, with `list` lent for its orders
 module _ (q : Request) (h : Head) (t : Tables) (list : List ℕ) where
   -- what is kept of a change with that verdict
   abbrev kept-by : Option Refusal → Kept
