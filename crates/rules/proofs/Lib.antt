@@ -22,3 +22,7 @@ pub mod CallLaws
 pub mod RunLaws
 pub mod RefusedLaws
 pub mod ServeLaws
+pub mod KnowsLaws
+pub mod WalkLaws
+pub mod ViewLaws
+pub mod ShownLaws

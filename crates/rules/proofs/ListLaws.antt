@@ -128,6 +128,23 @@ module _ {A : Type 0} where
       go [] e = refl
       go (y ∷ ys) e = let (a, b) = both (q x y) (every (q x) ys) e in rw (c x y a) (go ys b)
 
+  pub pairwise-at : (p : A → A → Bool) (xs : List A) (d : A) (i j : ℕ) → pairwise p xs ≡ true → i < j → j < length xs → p (getD xs i d) (getD xs j d) ≡ true
+  unfolding pairwise
+  pairwise-at p [] d i j h k l = absurd (not-suc-le-zero l)
+  pairwise-at p (x ∷ xs) d i zero h k l = absurd (not-suc-le-zero k)
+  pairwise-at p (x ∷ xs) d zero (suc j) h k l =
+      every-mem (p x) xs (both (every (p x) xs) (pairwise p xs) h .0) (getD-mem xs j d (le-of-suc-le-suc l))
+  pairwise-at p (x ∷ xs) d (suc i) (suc j) h k l =
+      pairwise-at p xs d i j (both (every (p x) xs) (pairwise p xs) h .1) (le-of-suc-le-suc k) (le-of-suc-le-suc l)
+
+  -- two places that fail the test, either way round, are one place
+  pub pairwise-one : (p : A → A → Bool) (xs : List A) (d : A) (i j : ℕ) → pairwise p xs ≡ true → i < length xs → j < length xs
+      → p (getD xs i d) (getD xs j d) ≡ false → p (getD xs j d) (getD xs i d) ≡ false → i ≡ j
+  pairwise-one p xs d i j h l m e f =
+      let a : i < j → ⊥ = λ k. false≢true (sym e ∙ pairwise-at p xs d i j h k m) in
+      let b : j < i → ⊥ = λ k. false≢true (sym f ∙ pairwise-at p xs d j i h k l) in
+      omega arith
+
   pub mem-some : (p : A → Bool) (xs : List A) {x : A} → List·Memᴰ x xs → p x ≡ true → some p xs ≡ true
   unfolding some
   mem-some p (y ∷ xs) (List·Memᴰ·head e) h = rw (sym (ap p e) ∙ h)

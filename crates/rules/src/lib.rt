@@ -27,6 +27,13 @@ pub struct Token {
     pub kind: u8,
 }
 
+// Who may read a resource, and its vertices.
+pub struct ResourceRow {
+    pub list: Users,
+    pub inner: InnerVertex,
+    pub outer: OuterVertex,
+}
+
 // An order to the host.
 pub struct Order {
     pub kind: u16,

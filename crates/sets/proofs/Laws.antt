@@ -262,6 +262,12 @@ has-below (suc n) s zero h k = zero-lt-suc n
 has-below (suc n) s (suc u) h k =
     omega (arith, has-below n (s / 2) u (omega (arith, pow-suc 2 n)) (sym (has-suc s u) ∙ k))
 
+-- and a set below 2 ^ n has at most n users
+pub size-below : (n s : ℕ) → s < 2 ^ n → size s ≤ n
+size-below zero s h = omega (arith, size-zero, ap size (lt-one h))
+size-below (suc n) s h =
+    omega (arith, size-step s, mod-lt s two-pos, size-below n (s / 2) (omega (arith, pow-suc 2 n)))
+
 pub has-size : (s u : ℕ) → has s u ≡ true → 0 < size s
 has-size s u h = omega (arith, size-mono (single u) s (single-within s u h), size-single u)
 
