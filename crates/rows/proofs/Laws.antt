@@ -135,3 +135,21 @@ read-back w at x t h l = cell-stored w at (bytesOf w x) t (length-bytes w x) h �
 pub stored-none : (at : ℕ) (t : List ℕ) → stored at [] t ≡ t
 unfolding stored
 stored-none at t = rw add-zero (take-append-drop at t)
+
+-- ---- stretches stored at the front, one behind the other
+
+pub stored-left : (bs t : List ℕ) → drop (length bs) (stored 0 bs t) ≡ drop (length bs) t
+unfolding stored
+stored-left bs t = drop-at bs (drop (0 + length bs) t) (length bs) refl ∙ ap (λ (n : ℕ). drop n t) (zero-add (length bs))
+
+pub stored-first : (bs t : List ℕ) → take (length bs) (stored 0 bs t) ≡ bs
+unfolding stored
+stored-first bs t = take-at bs (drop (0 + length bs) t) (length bs) refl
+
+-- one stretch behind the other
+pub stored-both : (xs ys t : List ℕ) → xs ++ stored 0 ys (drop (length xs) t) ≡ stored 0 (xs ++ ys) t
+unfolding stored
+stored-both xs ys t =
+    let n : length xs + (0 + length ys) ≡ 0 + length (xs ++ ys) = omega (arith, length-append xs ys) in
+    sym (append-assoc xs ys (drop (0 + length ys) (drop (length xs) t)))
+    ∙ ap (λ (x : List ℕ). (xs ++ ys) ++ x) (drop-drop (0 + length ys) (length xs) t ∙ ap (λ (k : ℕ). drop k t) n)
