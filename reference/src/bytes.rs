@@ -1,0 +1,217 @@
+//! The book as bytes, and its five sections.
+
+use std::ops::Range;
+
+use crate::book::{
+    Book, Head, InnerToken, OuterToken, ResourceRow, SoundBook, MAX_INNER_TOKENS,
+    MAX_INNER_VERTICES, MAX_OUTER_TOKENS, MAX_OUTER_VERTICES, MAX_RESOURCES, NO_OUTER_KEY,
+};
+use crate::numbers::{InnerVertex, OuterVertex};
+use crate::refusal::Refusal;
+use crate::sets::UserSet;
+use crate::sound::possible;
+
+/// The mark and the version at the start of a book.
+pub const MARK: [u8; 5] = [0x54, 0x4B, 0x42, 1, 0];
+/// Bytes before the first section.
+pub const HEAD_LENGTH: usize = 17;
+/// Bytes of a row in each section: inner vertices, inner tokens, outer
+/// vertices, outer tokens, resources.
+pub const WIDTHS: [usize; 5] = [8, 5, 8, 4, 12];
+/// Most rows of each section.
+pub const LIMITS: [usize; 5] = [
+    MAX_INNER_VERTICES,
+    MAX_INNER_TOKENS,
+    MAX_OUTER_VERTICES,
+    MAX_OUTER_TOKENS,
+    MAX_RESOURCES,
+];
+/// Bytes of the largest book.
+pub const LARGEST: usize = 46_609;
+
+/// A row of a table as bytes, little-endian.
+pub trait Row: Sized {
+    /// Its bytes.
+    const WIDTH: usize;
+    /// Reads it from exactly so many bytes.
+    fn read(bytes: &[u8]) -> Self;
+    /// Writes it to exactly so many bytes.
+    fn write(&self, bytes: &mut [u8]);
+}
+
+fn read_16(bytes: &[u8], at: usize) -> u16 {
+    u16::from_le_bytes([bytes[at], bytes[at + 1]])
+}
+
+fn read_set(bytes: &[u8]) -> UserSet {
+    let mut eight = [0; 8];
+    eight.copy_from_slice(&bytes[..8]);
+    UserSet(u64::from_le_bytes(eight))
+}
+
+impl Row for UserSet {
+    const WIDTH: usize = 8;
+
+    fn read(bytes: &[u8]) -> UserSet {
+        read_set(bytes)
+    }
+
+    fn write(&self, bytes: &mut [u8]) {
+        bytes.copy_from_slice(&self.0.to_le_bytes());
+    }
+}
+
+impl Row for InnerToken {
+    const WIDTH: usize = 5;
+
+    fn read(bytes: &[u8]) -> InnerToken {
+        InnerToken {
+            from: InnerVertex(read_16(bytes, 0)),
+            to: InnerVertex(read_16(bytes, 2)),
+            kind: bytes[4],
+        }
+    }
+
+    fn write(&self, bytes: &mut [u8]) {
+        bytes[..2].copy_from_slice(&self.from.0.to_le_bytes());
+        bytes[2..4].copy_from_slice(&self.to.0.to_le_bytes());
+        bytes[4] = self.kind;
+    }
+}
+
+impl Row for OuterToken {
+    const WIDTH: usize = 4;
+
+    fn read(bytes: &[u8]) -> OuterToken {
+        OuterToken {
+            from: OuterVertex(read_16(bytes, 0)),
+            to: OuterVertex(read_16(bytes, 2)),
+        }
+    }
+
+    fn write(&self, bytes: &mut [u8]) {
+        bytes[..2].copy_from_slice(&self.from.0.to_le_bytes());
+        bytes[2..].copy_from_slice(&self.to.0.to_le_bytes());
+    }
+}
+
+impl Row for ResourceRow {
+    const WIDTH: usize = 12;
+
+    fn read(bytes: &[u8]) -> ResourceRow {
+        let outer = read_16(bytes, 10);
+        ResourceRow {
+            list: read_set(bytes),
+            inner: InnerVertex(read_16(bytes, 8)),
+            outer: (outer != NO_OUTER_KEY).then_some(OuterVertex(outer)),
+        }
+    }
+
+    fn write(&self, bytes: &mut [u8]) {
+        bytes[..8].copy_from_slice(&self.list.0.to_le_bytes());
+        bytes[8..10].copy_from_slice(&self.inner.0.to_le_bytes());
+        let outer = self.outer.map_or(NO_OUTER_KEY, |vertex| vertex.0);
+        bytes[10..].copy_from_slice(&outer.to_le_bytes());
+    }
+}
+
+/// Reads rows from their bytes; a trailing incomplete row does not count.
+pub fn read_rows<R: Row>(bytes: &[u8]) -> Vec<R> {
+    bytes.chunks_exact(R::WIDTH).map(R::read).collect()
+}
+
+/// Writes rows from the start of the bytes on; those after are not touched.
+pub fn write_rows<R: Row>(rows: &[R], bytes: &mut [u8]) {
+    for (row, place) in rows.iter().zip(bytes.chunks_exact_mut(R::WIDTH)) {
+        row.write(place);
+    }
+}
+
+/// Where the five sections of a book with that head stand in its bytes.
+pub fn sections(head: &Head) -> [Range<usize>; 5] {
+    let counts = head.counts();
+    let mut start = HEAD_LENGTH;
+    std::array::from_fn(|k| {
+        let end = start + counts[k] * WIDTHS[k];
+        let section = start..end;
+        start = end;
+        section
+    })
+}
+
+/// The length of a book with that head.
+pub fn length(head: &Head) -> usize {
+    sections(head)[4].end
+}
+
+/// Reads the head, if the bytes have the mark, the version, a head with a
+/// possible mode and possible counts, and exactly the length it asks for.
+pub fn read_head(bytes: &[u8]) -> Option<Head> {
+    if bytes.len() < HEAD_LENGTH || bytes[..5] != MARK {
+        return None;
+    }
+    let head = Head {
+        mode: u16::from(bytes[5]),
+        users: u16::from(bytes[6]),
+        resources: read_16(bytes, 7),
+        inner_vertices: read_16(bytes, 9),
+        inner_tokens: read_16(bytes, 11),
+        outer_vertices: read_16(bytes, 13),
+        outer_tokens: read_16(bytes, 15),
+    };
+    (possible(&head) && bytes.len() == length(&head)).then_some(head)
+}
+
+/// Reads a sound book. Refusal: 12.
+pub fn read(bytes: &[u8]) -> Result<SoundBook, Refusal> {
+    let head = read_head(bytes).ok_or(Refusal::UNSOUND)?;
+    let [inner_vertices, inner_tokens, outer_vertices, outer_tokens, resources] = sections(&head);
+    let book = Book {
+        mode: head.mode,
+        users: head.users,
+        inner_vertices: read_rows(&bytes[inner_vertices]),
+        inner_tokens: read_rows(&bytes[inner_tokens]),
+        outer_vertices: read_rows(&bytes[outer_vertices]),
+        outer_tokens: read_rows(&bytes[outer_tokens]),
+        resources: read_rows(&bytes[resources]),
+    };
+    SoundBook::new(book).map_err(|_| Refusal::UNSOUND)
+}
+
+/// The book as bytes. Any book whose numbers fit can be written this way,
+/// also an unsound one; the lent face writes sound ones only.
+pub fn write(book: &Book) -> Vec<u8> {
+    let head = book.head();
+    let mut bytes = vec![0; length(&head)];
+    bytes[..5].copy_from_slice(&MARK);
+    bytes[5] = head.mode as u8;
+    bytes[6] = head.users as u8;
+    let counts = [
+        head.resources,
+        head.inner_vertices,
+        head.inner_tokens,
+        head.outer_vertices,
+        head.outer_tokens,
+    ];
+    for (count, place) in counts.iter().zip(bytes[7..17].chunks_exact_mut(2)) {
+        place.copy_from_slice(&count.to_le_bytes());
+    }
+    let [inner_vertices, inner_tokens, outer_vertices, outer_tokens, resources] = sections(&head);
+    write_rows(&book.inner_vertices, &mut bytes[inner_vertices]);
+    write_rows(&book.inner_tokens, &mut bytes[inner_tokens]);
+    write_rows(&book.outer_vertices, &mut bytes[outer_vertices]);
+    write_rows(&book.outer_tokens, &mut bytes[outer_tokens]);
+    write_rows(&book.resources, &mut bytes[resources]);
+    bytes
+}
+
+/// The stretch of a sound book's bytes that is its section `k`. Refusals: 12,
+/// then 1.
+pub fn section(bytes: &[u8], k: u16) -> Result<&[u8], Refusal> {
+    let book = read(bytes)?;
+    let stretch = sections(&book.book().head())
+        .get(usize::from(k))
+        .cloned()
+        .ok_or(Refusal::NOT_THERE)?;
+    Ok(&bytes[stretch])
+}

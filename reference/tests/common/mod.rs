@@ -1,0 +1,76 @@
+//! What several tests use.
+#![allow(dead_code)]
+
+use fenstubble_reference::book::{Mode, SoundBook};
+use fenstubble_reference::numbers::{Resource, User};
+use fenstubble_reference::program;
+use fenstubble_reference::refusal::Refusal;
+use fenstubble_reference::requests::Order;
+use fenstubble_reference::sets::UserSet;
+
+/// The program's output for an input.
+pub fn output(input: impl AsRef<[u8]>) -> String {
+    let mut out = Vec::new();
+    program::run(input.as_ref(), &mut out).unwrap();
+    String::from_utf8(out).unwrap()
+}
+
+/// Runs a script; every answer must be the one beside its request. Rows are
+/// parted by `; `, as in the documents; an accepted request is given by its
+/// rows alone, `ok` stands for no rows.
+pub fn script(mode: &str, steps: &[(&str, &str)]) {
+    let mut input = format!("{mode}\n");
+    let mut expected = String::new();
+    for (request, answer) in steps {
+        input += request;
+        input += "\n";
+        if answer.starts_with("no ") {
+            expected += answer;
+            expected += "\n";
+        } else if *answer == "ok" {
+            expected += "ok 0\n";
+        } else {
+            let rows: Vec<&str> = answer.split("; ").collect();
+            expected += &format!("ok {}\n{}\n", rows.len(), rows.join("\n"));
+        }
+    }
+    let got = output(&input);
+    if got != expected {
+        let line = got.lines().zip(expected.lines()).position(|(a, b)| a != b);
+        panic!("first difference at line {line:?}\n--- got\n{got}\n--- expected\n{expected}");
+    }
+}
+
+/// A book with so many users.
+pub fn joined(mode: Mode, users: usize) -> SoundBook {
+    let mut book = SoundBook::empty(mode);
+    for _ in 0..users {
+        book.join(2).unwrap();
+    }
+    book
+}
+
+/// A set of users.
+pub fn set(users: &[u16]) -> UserSet {
+    users.iter().map(|&user| User(user)).collect()
+}
+
+/// A user.
+pub fn u(number: u16) -> User {
+    User(number)
+}
+
+/// A resource.
+pub fn r(number: u16) -> Resource {
+    Resource(number)
+}
+
+/// Orders as rows.
+pub fn rows(orders: Result<Vec<Order>, Refusal>) -> Vec<[u16; 3]> {
+    orders.unwrap().into_iter().map(Order::row).collect()
+}
+
+/// The number of a refusal.
+pub fn number<T: std::fmt::Debug>(result: Result<T, Refusal>) -> u8 {
+    result.unwrap_err().number
+}
