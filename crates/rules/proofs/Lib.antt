@@ -9,6 +9,7 @@ pub mod LockLaws
 pub mod RevokeLaws
 pub mod LetInLaws
 pub mod GrantLaws
+pub mod HostLaws
 pub mod InsertLaws
 pub mod SoundLaws
 pub mod ChainLaws
