@@ -13,3 +13,4 @@ pub mod HostLaws
 pub mod InsertLaws
 pub mod SoundLaws
 pub mod ChainLaws
+pub mod NeighbourLaws
