@@ -13,7 +13,7 @@ use lib.Dec.{eqb}
 use lib.ListN.{length, getD, set, length-set, length-append, length-map}
 use borrow.Author.Tests.{eqb-true, eqb-false, eq-eqb, ne-eqb, not-true, not-false}
 use Rattle.sets.specs.Sets.{has, within, inside, size, single, union}
-use Rattle.rules.specs.Lists.{keep, some, numbered}
+use Rattle.rules.specs.Lists.{keep, some, numbered, tabulateFrom, tabulate, upTo}
 use Rattle.rules.specs.Layer.{Layer, setOf, vertexFor}
 use Rattle.rules.specs.Book.{Book, Resource, none, resource, hasOuter, withInner, withOuter, withResources, withList, withLock}
 use Rattle.rules.specs.Holders.{holders, holdersOf}
@@ -26,7 +26,7 @@ use Rattle.rules.proofs.LetInLaws.{holds-only}
 use Rattle.rules.proofs.LockLaws.{Place, Kept, Relocked, lock-laws}
 use Rattle.rules.proofs.RevokeLaws.{AllLocked, open?, locked-by, member, locks-more}
 use Rattle.rules.proofs.GrantLaws.{LetIn, grouped-mem, open-same, relocked-lists, at-r, stage-kept, other-row, is-in, comes-in}
-use Rattle.rules.proofs.SoundLaws.{sound-kept, sound-locked}
+use Rattle.rules.proofs.SoundLaws.{sound-kept, sound-locked, sound-counts}
 
 -- ---- the book after the list has grown and the user is let in
 
@@ -432,3 +432,164 @@ neighbours-fewer r c l =
 
 pub grouped-fewer : (r : ℕ) (c : Book) → r < length (c .resources) → length (grouped [] (neighbours r c)) < length (c .resources)
 grouped-fewer r c l = omega (arith, grouped-length [] (neighbours r c), length-keep (fresh []) (neighbours r c), neighbours-fewer r c l)
+
+-- ---- the run of locks of a grant, by resource number
+
+-- i is to be locked by a grant of r to u: in delta mode, where u comes in, with the vertex of r and the old holders for its list
+unfoldable pub waits : Book → ℕ → ℕ → ℕ → Bool
+waits b r u i =
+    eqb (b .mode) 1 && not (has (holdersOf b r) u) && not (eqb i r) && eqb (resource b i .inner) (resource b r .inner) && eqb (resource b i .list) (holdersOf b r)
+
+-- those that wait, in ascending order
+unfoldable pub waiters : Book → ℕ → ℕ → List ℕ
+waiters b r u = keep (waits b r u) (upTo (length (b .resources)))
+
+pub record Waits (b : Book) (r u i : ℕ) : Type 0 where
+  pub delta : b .mode ≡ 1
+  pub outside : has (holdersOf b r) u ≡ false
+  pub other : i ≢ r
+  pub vertex : resource b i .inner ≡ resource b r .inner
+  pub list : resource b i .list ≡ holdersOf b r
+
+pub waits-are : (b : Book) (r u i : ℕ) → waits b r u i ≡ true → Waits b r u i
+unfolding waits
+waits-are b r u i h =
+    let (p, e) = both (eqb (b .mode) 1 && not (has (holdersOf b r) u) && not (eqb i r) && eqb (resource b i .inner) (resource b r .inner)) (eqb (resource b i .list) (holdersOf b r)) h in
+    let (q, d) = both (eqb (b .mode) 1 && not (has (holdersOf b r) u) && not (eqb i r)) (eqb (resource b i .inner) (resource b r .inner)) p in
+    let (s, c) = both (eqb (b .mode) 1 && not (has (holdersOf b r) u)) (not (eqb i r)) q in
+    let (x, y) = both (eqb (b .mode) 1) (not (has (holdersOf b r) u)) s in
+    record {
+      delta = eqb-true (b .mode) 1 x;
+      outside = not-true (has (holdersOf b r) u) y;
+      other = eqb-false i r (not-true (eqb i r) c);
+      vertex = eqb-true (resource b i .inner) (resource b r .inner) d;
+      list = eqb-true (resource b i .list) (holdersOf b r) e;
+    }
+
+pub are-waits : (b : Book) (r u i : ℕ) → Waits b r u i → waits b r u i ≡ true
+unfolding waits
+are-waits b r u i w =
+    rw (
+      eq-eqb (b .mode) 1 (w .delta),
+      w .outside,
+      ne-eqb i r (w .other),
+      eq-eqb (resource b i .inner) (resource b r .inner) (w .vertex),
+      eq-eqb (resource b i .list) (holdersOf b r) (w .list),
+    )
+
+pub numbers-numbered : {A : Type 0} (n : ℕ) (xs : List A) → map (λ x. x .0) (numbered n xs) ≡ tabulateFrom n (length xs) (λ i. i)
+unfolding numbered tabulateFrom
+numbers-numbered n [] = refl
+numbers-numbered n (x ∷ xs) = ap (λ (l : List ℕ). n ∷ l) (numbers-numbered (suc n) xs)
+
+module _ (b c : Book) (k : Kept b) (a : AllLocked b) (r u : ℕ) (l : r < length (b .resources)) (s : Started b c r u)
+    (room : length (b .outer .sets) + length (b .resources) < none) where
+  -- a neighbour that does not wait is locked
+  passed-over : (i : ℕ) → Neighbour r c i → waits b r u i ≡ false → locked c (resource c i) ≡ true
+  passed-over i n e = locked-for c (resource c i) (neighbour-open r c i n) ∙ go (lockedFor c (resource c i) (resource c i .list)) refl
+    where
+      go : (z : Bool) → lockedFor c (resource c i) (resource c i .list) ≡ z → z ≡ true
+      go true q = refl
+      go false q =
+          let w = waiting b c a r u s i n q in
+          absurd
+          (true≢false
+          (sym (are-waits b r u i (record {
+            delta = w .delta;
+            outside = w .outside;
+            other = n .other;
+            vertex = ap (λ (x : Resource). x .inner) (sym (s .others i (n .other))) ∙ n .vertex ∙ ap (λ (x : Resource). x .inner) (s .row);
+            list = w .list;
+          }))
+          ∙ e))
+
+  -- one that waits is a neighbour
+  waits-differs : (i : ℕ) → Waits b r u i → resource c i .list ≢ holdersOf c r
+  waits-differs i w e = go (s .grew)
+    where
+      go : ((has (holdersOf b r) u ≡ true) × (holdersOf c r ≡ holdersOf b r))
+          ⊎ ((has (holdersOf b r) u ≡ false) × (holdersOf c r ≡ union (holdersOf b r) (single u))) → ⊥
+      go (inl (p, q)) = true≢false (sym p ∙ w .outside)
+      go (inr (p, q)) =
+          true≢false
+          (sym (has-union-right (holdersOf b r) (single u) u (has-own u))
+          ∙ ap (λ (x : ℕ). has x u) (sym (ap (λ (x : Resource). x .list) (sym (s .others i (w .other))) ∙ e ∙ q)
+          ∙ w .list)
+          ∙ p)
+
+  apart-all : (is : List ℕ) → ((i : ℕ) → List·Memᴰ i is → Neighbour r c i) → length is < length (c .resources) → Apart c is
+  apart-all is f h =
+      record {
+        kept = s .kept;
+        rows = λ i m. (f i m .there, neighbour-open r c i (f i m));
+        room = omega (arith, room, s .count, ap (λ (L : Layer). length (L .sets)) (s .outer));
+      }
+
+  in-numbers : (i : ℕ) → List·Memᴰ i (numbers (neighbours r c)) → Neighbour r c i
+  in-numbers i m = let (x, n, e) = map-mem (λ (x : ℕ × Resource). x .0) (neighbours r c) m in subst (Neighbour r c) (sym e) (neighbour-row r c n .0)
+
+  rc : r < length (c .resources)
+  rc = omega (arith, s .count)
+
+  grouped-waits : lockAll (grouped [] (neighbours r c)) c ≡ lockAll (keep (waits b r u) (numbers (neighbours r c))) c
+  unfolding some
+  grouped-waits =
+      lockAll-skips (waits b r u) (grouped [] (neighbours r c)) c
+      (apart-all (grouped [] (neighbours r c)) (λ i m. neighbour-in-order r c m) (grouped-fewer r c rc))
+      (λ i m e. passed-over i (neighbour-in-order r c m) e)
+      ∙ ap (λ (is : List ℕ). lockAll is c)
+      (grouped-keep (waits b r u) (holdersOf b r) [] (neighbours r c) (λ x m e.
+      let (n, q) = neighbour-row r c m in
+      ap (λ (y : Resource). y .list) (q ∙ s .others (x .0) (n .other)) ∙ waits-are b r u (x .0) e .list))
+
+  plain-waits : lockAll (numbers (neighbours r c)) c ≡ lockAll (keep (waits b r u) (numbers (neighbours r c))) c
+  plain-waits =
+      lockAll-skips (waits b r u) (numbers (neighbours r c)) c
+      (apart-all (numbers (neighbours r c)) in-numbers (omega (arith, length-map (neighbours r c) (λ (x : ℕ × Resource). x .0), neighbours-fewer r c rc)))
+      (λ i m e. passed-over i (in-numbers i m) e)
+
+  waits-of-all : keep (waits b r u) (numbers (neighbours r c)) ≡ waiters b r u
+  unfolding neighbours waiters upTo tabulate resource
+  waits-of-all =
+      keep-numbers (waits b r u)
+      (λ (x : ℕ × Resource). not (eqb (x .0) r) && eqb (x .1 .inner) (resource c r .inner) && not (eqb (x .1 .list) (holdersOf c r))) (numbered 0 (c .resources))
+      (λ x m e.
+      let w = waits-are b r u (x .0) e in
+      let (j, h, q) = numbered-mem 0 (c .resources) (record { list = 0; inner = 0; outer = none }) m in
+      let row : x .1 ≡ resource c (x .0) = ap (λ (x : ℕ × Resource). x .1) q ∙ ap (resource c) (sym (ap (λ (x : ℕ × Resource). x .0) q ∙ zero-add j)) in
+      rw (
+        ne-eqb (x .0) r (w .other),
+        eq-eqb (x .1 .inner) (resource c r .inner)
+            (ap (λ (y : Resource). y .inner) (row ∙ s .others (x .0) (w .other)) ∙ w .vertex ∙ sym (ap (λ (y : Resource). y .inner) (s .row))),
+        ne-eqb (x .1 .list) (holdersOf c r) (λ z. waits-differs (x .0) w (ap (λ (y : Resource). y .list) (sym row) ∙ z)),
+      ))
+      ∙ ap (keep (waits b r u)) (numbers-numbered 0 (c .resources) ∙ ap (λ (n : ℕ). tabulateFrom 0 n (λ i. i)) (s .count))
+
+  -- locking in plain ascending order of resource numbers gives the same book and orders as the grouped order
+  pub run-plain : lockAll (grouped [] (neighbours r c)) c ≡ lockAll (numbers (neighbours r c)) c
+  run-plain = grouped-waits ∙ sym plain-waits
+
+  -- and so does locking those alone that wait
+  pub run-waiters : lockAll (grouped [] (neighbours r c)) c ≡ lockAll (waiters b r u) c
+  run-waiters = grouped-waits ∙ ap (λ (is : List ℕ). lockAll is c) waits-of-all
+
+-- ---- of a sound book
+
+module _ (b : Book) (h : sound b ≡ true) (r u : ℕ) (l : r < length (b .resources)) (un : u < b .users) where
+  pub grant-starts : Started b (letInBook r u b) r u
+  grant-starts = started b (sound-kept b h) (sound-locked b h) r u l un
+
+  pub room-for-all : length (b .outer .sets) + length (b .resources) < none
+  room-for-all = let c = sound-counts b h in omega arith
+
+  -- "grouped by equal list, groups by lowest resource number" is not seen: plain ascending order gives the same book and orders
+  pub grouped-plain : lockAll (grouped [] (neighbours r (letInBook r u b))) (letInBook r u b) ≡ lockAll (numbers (neighbours r (letInBook r u b))) (letInBook r u b)
+  grouped-plain = run-plain b (letInBook r u b) (sound-kept b h) (sound-locked b h) r u l grant-starts room-for-all
+
+  -- a grant, with those alone that wait, in ascending order
+  pub grant-plain : grant r u b ≡ done (withList b r (grantedList r u b)) [] then letIn r u then lockAll (waiters b r u) then settle r
+  unfolding grant _then_ done
+  grant-plain =
+      ap (λ (d : Done). d then settle r)
+      (then-same (done (withList b r (grantedList r u b)) [] then letIn r u) (λ c. lockAll (grouped [] (neighbours r c)) c) (lockAll (waiters b r u))
+      (run-waiters b (letInBook r u b) (sound-kept b h) (sound-locked b h) r u l grant-starts room-for-all))
