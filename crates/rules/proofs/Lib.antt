@@ -14,3 +14,4 @@ pub mod InsertLaws
 pub mod SoundLaws
 pub mod ChainLaws
 pub mod NeighbourLaws
+pub mod CountLaws
