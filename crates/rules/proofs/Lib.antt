@@ -15,3 +15,4 @@ pub mod SoundLaws
 pub mod ChainLaws
 pub mod NeighbourLaws
 pub mod CountLaws
+pub mod GroupLaws
