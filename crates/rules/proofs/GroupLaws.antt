@@ -13,7 +13,8 @@ use lib.Seq.{getD-set-other}
 use borrow.Author.Tests.{eqb-true, eqb-false, eq-eqb, ne-eqb, not-true}
 use Rattle.sets.specs.Sets.{has, within, inside, size, single, union}
 use Rattle.rules.specs.Lists.{keep, every, pairwise, tabulateFrom, tabulate, upTo}
-use Rattle.rules.specs.Layer.{Layer, cover, found, vertexFor, withVertex}
+use Rattle.rules.specs.Layer.{Layer, token, setOf, cover, found, vertexFor, withVertex}
+use Rattle.rules.specs.declared.Token.{Token}
 use Rattle.rules.specs.declared.Order.{Order}
 use Rattle.rules.specs.Book.{Book, Resource, none, resource, hasOuter, withOuter, withResources, withList, withLock}
 use Rattle.rules.specs.Holders.{holders, holdersOf}
@@ -21,11 +22,13 @@ use Rattle.rules.specs.Sound.{held, locked, lockedFor, unequal, sound}
 use Rattle.rules.specs.Requests.{Done, done, order, _then_, vertexOrders, outerVertex, relock, lock, unlock, lockList, lockAll, agrees, settle, letIn, neighbours, grouped, grant}
 use Rattle.sets.proofs.Laws.{both, has-within, within-has, same-within, has-union-right, has-union-cases, has-own, has-single, inside-within}
 use Rattle.rules.proofs.ListLaws.{every-mem, mem-every, keep-mem, upTo-mem, mem-upTo, length-tabulate}
+use Rattle.rules.proofs.LayerLaws.{set-old}
 use Rattle.rules.proofs.LockLaws.{Kept}
 use Rattle.rules.proofs.RevokeLaws.{AllLocked, open?, member}
+use Rattle.rules.proofs.GrantLaws.{Passed, lockAll-laws}
 use Rattle.rules.proofs.SoundLaws.{sound-kept, sound-locked}
 use Rattle.rules.proofs.CountLaws.{found-made, vertex-made, found-kept, cover-beside, withVertex-found, vertexOrders-found}
-use Rattle.rules.proofs.NeighbourLaws.{Started, grantedList, letInBook, length-keep-less, then-same, after-nothing, waits, waiters, Waits, waits-are, grant-starts, run-waiters, grant-plain, room-for-all}
+use Rattle.rules.proofs.NeighbourLaws.{Started, grantedList, letInBook, length-keep-less, grouped-fewer, neighbour-in-order, neighbour-open, then-same, after-nothing, waits, waiters, Waits, waits-are, grant-starts, run-waiters, grant-plain, room-for-all}
 
 pub then-assoc : (d : Done) (f g : Book → Done) → (d then f) then g ≡ d then (λ b. f b then g)
 unfolding _then_
@@ -191,3 +194,137 @@ module _ (b : Book) (r u : ℕ) where
             ∙ not-true (hasOuter (resource b i))
             (rw (eq-eqb (b .mode) 1 (w .delta), eq-eqb (holders (b .inner) (resource b i .inner)) (resource b i .list) agree) at (a i l)),
       )
+
+-- ---- a grant from a sound book
+
+-- the book before r itself is settled
+abbrev pub lockedBook : ℕ → ℕ → Book → Book
+lockedBook r u b = lockAll (grouped [] (neighbours r (letInBook r u b))) (letInBook r u b) .book
+
+pub withVertex-set : (L : Layer) (s v : ℕ) → v < length (L .sets) → setOf (withVertex L s) v ≡ setOf L v
+unfolding withVertex
+withVertex-set L s v h = go (found L s)
+  where
+    new : List Token
+    new = map (λ w. token w (length (L .sets)) 0) (cover L s)
+
+    go : (z : Bool) → setOf (cond z L (record { sets = L .sets ++ (s ∷ []); tokens = L .tokens ++ new })) v ≡ setOf L v
+    go true = refl
+    go false = set-old L s new v h
+
+module _ (b : Book) (h : sound b ≡ true) (r u : ℕ) (l : r < length (b .resources)) (un : u < b .users) where
+  abbrev c : Book
+  c = letInBook r u b
+
+  s : Started b c r u
+  s = grant-starts b h r u l un
+
+  run-group : lockAll (waiters b r u) c ≡ lockGroup (waiters b r u) (holdersOf b r) c
+  run-group = lockAll-group (holdersOf b r) (waiters b r u) c (waiters-apart b r u) (waiters-bare b r u (sound-locked b h) c s)
+
+  -- a grant: the list, the token, the one group of neighbours, and r
+  pub grant-group : grant r u b ≡ done (withList b r (grantedList r u b)) [] then letIn r u then lockGroup (waiters b r u) (holdersOf b r) then settle r
+  unfolding _then_ done
+  grant-group =
+      grant-plain b h r u l un
+      ∙ ap (λ (d : Done). d then settle r)
+      (then-same (done (withList b r (grantedList r u b)) [] then letIn r u) (lockAll (waiters b r u)) (lockGroup (waiters b r u) (holdersOf b r)) run-group)
+
+  pub locked-book : lockedBook r u b ≡ lockGroup (waiters b r u) (holdersOf b r) c .book
+  locked-book =
+      ap (λ (d : Done). d .book)
+      (run-waiters b c (sound-kept b h) (sound-locked b h) r u l s (room-for-all b h r u l un) ∙ run-group)
+
+  pub run-passed : Passed c (lockedBook r u b) (grouped [] (neighbours r c))
+  run-passed =
+      lockAll-laws (grouped [] (neighbours r c)) c (s .kept) (λ i m. let n = neighbour-in-order r c m in (n .there, neighbour-open r c i n))
+      (omega (arith, room-for-all b h r u l un, s .count, ap (λ (L : Layer). length (L .sets)) (s .outer), grouped-fewer r c (omega (arith, s .count))))
+
+  -- whether r is to have no outer key is known before the neighbours are locked
+  pub settled-before : (eqb (lockedBook r u b .mode) 1 && agrees (lockedBook r u b) r) ≡ (eqb (b .mode) 1 && eqb (holdersOf c r) (grantedList r u b))
+  unfolding agrees holdersOf
+  settled-before =
+      let p = run-passed in
+      ap₂ (λ (x y : Bool). x && y) (ap (λ (m : ℕ). eqb m 1) (p .mode ∙ s .mode))
+      (ap₂ eqb (ap₂ holders (p .inner) (p .vertices r)) (p .lists r ∙ ap (λ (x : Resource). x .list) (s .row)))
+
+  -- the outer layer then: as it was, or with the vertex for the old holders
+  pub locked-outer : (lockedBook r u b .outer ≡ b .outer)
+      ⊎ ((lockedBook r u b .outer ≡ withVertex (b .outer) (holdersOf b r)) × (b .mode ≡ 1) × (has (holdersOf b r) u ≡ false))
+  unfolding lockGroup done
+  locked-outer = go (waiters b r u) refl
+    where
+      go : (is : List ℕ) → waiters b r u ≡ is
+          → (lockedBook r u b .outer ≡ b .outer)
+          ⊎ ((lockedBook r u b .outer ≡ withVertex (b .outer) (holdersOf b r)) × (b .mode ≡ 1) × (has (holdersOf b r) u ≡ false))
+      go [] e = inl (ap (λ (x : Book). x .outer) locked-book ∙ ap (λ (is : List ℕ). lockGroup is (holdersOf b r) c .book .outer) e ∙ s .outer)
+      go (i ∷ is) e =
+          let (k, w) = waiters-mem b r u (subst (λ (js : List ℕ). List·Memᴰ i js) (sym e) (List·Memᴰ·head refl)) in
+          inr (
+            ap (λ (x : Book). x .outer) locked-book
+                ∙ ap (λ (is : List ℕ). lockGroup is (holdersOf b r) c .book .outer) e
+                ∙ group-outer i is (holdersOf b r) c
+                ∙ ap (λ (L : Layer). withVertex L (holdersOf b r)) (s .outer),
+            w .delta,
+            w .outside,
+          )
+
+  -- the new list has u
+  listed : has (grantedList r u b) u ≡ true
+  listed = has-union-right (resource b r .list) (single u) u (has-own u)
+
+  -- the old holders are inside the new list only where the list is what the holders are
+  not-inside : has (holdersOf b r) u ≡ false → eqb (holdersOf c r) (grantedList r u b) ≡ false → inside (holdersOf b r) (grantedList r u b) ≡ false
+  unfolding held holdersOf
+  not-inside out differ = go (inside (holdersOf b r) (grantedList r u b)) refl
+    where
+      H : ℕ
+      H = holders (b .inner) (resource b r .inner)
+
+      fewer : within H (grantedList r u b) ≡ true → (z : ℕ) → has H z ≡ true → has (resource b r .list) z ≡ true
+      fewer w z k = by (has-union-cases (resource b r .list) (single u) z (within-has H (grantedList r u b) z w k))
+        where
+          by : (has (resource b r .list) z ≡ true) ⊎ (has (single u) z ≡ true) → has (resource b r .list) z ≡ true
+          by (inl e) = e
+          by (inr e) = absurd (true≢false (sym k ∙ ap (has H) (eqb-true z u (sym (has-single u z) ∙ e)) ∙ out))
+
+      same : within H (grantedList r u b) ≡ true → H ≡ resource b r .list
+      same w =
+          same-within H (resource b r .list) (has-within H (resource b r .list) (fewer w))
+          (sound-kept b h .holds (resource b r) (member b r l))
+
+      then-agree : H ≡ resource b r .list
+          → ((has (holdersOf b r) u ≡ true) × (holdersOf c r ≡ holdersOf b r))
+          ⊎ ((has (holdersOf b r) u ≡ false) × (holdersOf c r ≡ union (holdersOf b r) (single u))) → ⊥
+      then-agree e (inl (p, q)) = true≢false (sym p ∙ out)
+      then-agree e (inr (p, q)) = eqb-false (holdersOf c r) (grantedList r u b) differ (q ∙ ap (λ (x : ℕ). union x (single u)) e)
+
+      go : (z : Bool) → inside (holdersOf b r) (grantedList r u b) ≡ z → inside (holdersOf b r) (grantedList r u b) ≡ false
+      go true e = absurd (then-agree (same (inside-within (holdersOf b r) (grantedList r u b) e)) (s .grew))
+      go false e = e
+
+  -- where r is locked for its list after the neighbours, its cover is the one that it had before
+  pub second-cover : (eqb (lockedBook r u b .mode) 1 && agrees (lockedBook r u b) r) ≡ false
+      → cover (lockedBook r u b .outer) (grantedList r u b) ≡ cover (b .outer) (grantedList r u b)
+  second-cover e = go locked-outer
+    where
+      go : (lockedBook r u b .outer ≡ b .outer)
+          ⊎ ((lockedBook r u b .outer ≡ withVertex (b .outer) (holdersOf b r)) × (b .mode ≡ 1) × (has (holdersOf b r) u ≡ false))
+          → cover (lockedBook r u b .outer) (grantedList r u b) ≡ cover (b .outer) (grantedList r u b)
+      go (inl q) = ap (λ (L : Layer). cover L (grantedList r u b)) q
+      go (inr (q, m, out)) =
+          ap (λ (L : Layer). cover L (grantedList r u b)) q
+          ∙ cover-beside (b .outer) (holdersOf b r) (grantedList r u b)
+          (not-inside out (ap (λ (z : Bool). z && eqb (holdersOf c r) (grantedList r u b)) (sym (eq-eqb (b .mode) 1 m)) ∙ sym settled-before ∙ e))
+
+  -- and its vertex is there exactly if it was there before
+  pub second-found : found (lockedBook r u b .outer) (grantedList r u b) ≡ found (b .outer) (grantedList r u b)
+  second-found = go locked-outer
+    where
+      go : (lockedBook r u b .outer ≡ b .outer)
+          ⊎ ((lockedBook r u b .outer ≡ withVertex (b .outer) (holdersOf b r)) × (b .mode ≡ 1) × (has (holdersOf b r) u ≡ false))
+          → found (lockedBook r u b .outer) (grantedList r u b) ≡ found (b .outer) (grantedList r u b)
+      go (inl q) = ap (λ (L : Layer). found L (grantedList r u b)) q
+      go (inr (q, m, out)) =
+          ap (λ (L : Layer). found L (grantedList r u b)) q
+          ∙ found-kept (b .outer) (holdersOf b r) (grantedList r u b) (λ e. true≢false (sym listed ∙ ap (λ (x : ℕ). has x u) (sym e) ∙ out))
