@@ -16,3 +16,4 @@ pub mod ChainLaws
 pub mod NeighbourLaws
 pub mod CountLaws
 pub mod GroupLaws
+pub mod PlanLaws

@@ -1,0 +1,147 @@
+-- What a request from a sound book will leave, counted on the tables as they are: the vertices, tokens and orders that it adds.
+-- Assumes nothing.
+use Prim.Native.Nat.{ℕ, zero, suc, _+_, _^_, _≤_, _<_}
+use mathlib.Core.Path.{_≡_, refl, sym, ap, ap₂, _∙_, subst}
+use mathlib.Core.Bool.{Bool, true, false, _&&_, _||_, not, cond, true≢false, false≢true, and-false}
+use mathlib.Core.Logic.{_⊎_, inl, inr, _≢_}
+use mathlib.Core.List.{List, [], _∷_, _++_, map, List·Memᴰ, List·Memᴰ·head, List·Memᴰ·tail}
+use native.Mathlib.Nat.{le-refl, add-zero}
+use native.Mathlib.Omega.{arith}
+use lib.Dec.{eqb}
+use lib.ListN.{length, getD, set, length-append, length-map}
+use lib.Seq.{getD-set-same, getD-append-seam}
+use borrow.Author.Tests.{eqb-true, eqb-false, eq-eqb, ne-eqb, not-true, not-false}
+use Rattle.sets.specs.Sets.{has, minus, single, union}
+use Rattle.rules.specs.Layer.{Layer, token, setOf, cover, found, vertexFor, withVertex}
+use Rattle.rules.specs.declared.Token.{Token}
+use Rattle.rules.specs.declared.Order.{Order}
+use Rattle.rules.specs.Book.{Book, Resource, none, resource, hasOuter, withInner, withOuter, withResources, withList, withLock}
+use Rattle.rules.specs.Holders.{holders, holdersOf}
+use Rattle.rules.specs.Sound.{locked, lockedFor, sound}
+use Rattle.rules.specs.Requests.{Done, done, order, _then_, vertexOrders, innerVertex, outerVertex, relock, lock, unlock, lockList, lockAll, agrees, encrypt, lockNew, insert, letIn, neighbours, grouped, settle, grant, revoke}
+use Rattle.sets.proofs.Laws.{has-minus, has-union-right, has-own}
+use Rattle.rules.proofs.LockLaws.{Place, Kept}
+use Rattle.rules.proofs.RevokeLaws.{AllLocked, member}
+use Rattle.rules.proofs.OpensLaws.{locked-cases}
+use Rattle.rules.proofs.SoundLaws.{sound-kept, sound-locked}
+use Rattle.rules.proofs.NeighbourLaws.{Started, grantedList, letInBook, waiters, grant-starts}
+use Rattle.rules.proofs.GroupLaws.{lockGroup, group-orders, group-outer, group-others, waiters-mem, lockedBook, withVertex-set, grant-group, locked-book, run-passed, settled-before, locked-outer, second-cover, second-found}
+
+-- ---- a list that has just changed is never locked for already
+
+-- S8: the outer vertex, if any, has the old list
+pub new-list-loose : (b : Book) (x : Resource) (s : ℕ) → locked b x ≡ true → s ≢ x .list → lockedFor b x s ≡ false
+unfolding lockedFor hasOuter
+new-list-loose b x s h n = go (locked-cases b x h)
+  where
+    go : ((x .outer ≡ none) × (holders (b .inner) (x .inner) ≡ x .list)) ⊎ ((x .outer ≡ none → ⊥) × (setOf (b .outer) (x .outer) ≡ x .list))
+        → (not (eqb (x .outer) none) && eqb (setOf (b .outer) (x .outer)) s) ≡ false
+    go (inl (e, q)) = rw (eq-eqb (x .outer) none e)
+    go (inr (m, q)) =
+        ap (λ (z : Bool). not (eqb (x .outer) none) && z) (ne-eqb (setOf (b .outer) (x .outer)) s (λ e. n (sym e ∙ q)))
+        ∙ and-false (not (eqb (x .outer) none))
+
+-- so the lock finds or makes the vertex, and re-locks
+pub lock-loose : (i : ℕ) (c : Book) (s : ℕ) → lockedFor c (resource c i) s ≡ false → lock i s c ≡ outerVertex s c then relock i (vertexFor (c .outer) s)
+unfolding lock
+lock-loose i c s e = rw e
+
+-- the row of r with another list
+pub row-listed : (b : Book) (r s : ℕ) → r < length (b .resources)
+    → resource (withList b r s) r ≡ record { list = s; inner = resource b r .inner; outer = resource b r .outer }
+unfolding withList withResources resource
+row-listed b r s l = getD-set-same (b .resources) r (record { list = s; inner = resource b r .inner; outer = resource b r .outer }) (record { list = 0; inner = 0; outer = none }) l
+
+-- ---- revoke
+
+-- the list of r without u
+abbrev pub revokedList : ℕ → ℕ → Book → ℕ
+revokedList r u b = minus (resource b r .list) (single u)
+
+-- u has left the list
+pub revoked : (b : Book) (r u : ℕ) → has (revokedList r u b) u ≡ false
+revoked b r u =
+    has-minus (resource b r .list) (single u) u ∙ ap (λ (z : Bool). has (resource b r .list) u && not z) (has-own u) ∙ and-false (has (resource b r .list) u)
+
+pub revoke-plan : (b : Book) → sound b ≡ true → (r u : ℕ) → r < length (b .resources) → has (resource b r .list) u ≡ true
+    → revoke r u b ≡ outerVertex (revokedList r u b) (withList b r (revokedList r u b)) then relock r (vertexFor (b .outer) (revokedList r u b))
+unfolding revoke lockList _then_ done withList withResources lockedFor hasOuter
+revoke-plan b h r u l listed =
+    let s = revokedList r u b in
+    let loose : lockedFor (withList b r s) (resource (withList b r s) r) s ≡ false =
+    ap (λ (x : Resource). lockedFor b x s) (row-listed b r s l)
+    ∙ new-list-loose b (resource b r) s (sound-locked b h r l) (λ e. true≢false (sym listed ∙ ap (λ (x : ℕ). has x u) (sym e) ∙ revoked b r u)) in
+    ap (λ (x : Resource). lock r (x .list) (withList b r s)) (row-listed b r s l) ∙ lock-loose r (withList b r s) s loose
+
+-- ---- insert: a new row has no outer key
+
+-- the book with the new row
+abbrev pub encrypted : ℕ → Book → Book
+encrypted l b = (innerVertex l b then encrypt l (vertexFor (b .inner) l)) .book
+
+pub encrypted-row : (l : ℕ) (b : Book) → resource (encrypted l b) (length (b .resources)) ≡ record { list = l; inner = vertexFor (b .inner) l; outer = none }
+unfolding _then_ innerVertex encrypt done withInner withResources resource
+encrypted-row l b = getD-append-seam (b .resources) (record { list = l; inner = vertexFor (b .inner) l; outer = none }) [] (record { list = 0; inner = 0; outer = none })
+
+pub insert-plan : (l : ℕ) (b : Book)
+    → insert l b
+    ≡ innerVertex l b
+    then encrypt l (vertexFor (b .inner) l)
+    then (λ c. cond (eqb (b .mode) 1 && agrees c (length (b .resources))) (done c [])
+    (outerVertex l c then relock (length (b .resources)) (vertexFor (b .outer) l)))
+unfolding insert _then_ innerVertex encrypt done withInner withResources lockNew lockList lockedFor hasOuter
+insert-plan l b =
+    ap (λ (d : Done). innerVertex l b then encrypt l (vertexFor (b .inner) l) then (λ c. cond (eqb (b .mode) 1 && agrees c (length (b .resources))) (done c []) d))
+    (ap (λ (x : Resource). lock (length (b .resources)) (x .list) (encrypted l b)) (encrypted-row l b)
+    ∙ lock-loose (length (b .resources)) (encrypted l b) l (ap (λ (x : Resource). lockedFor (encrypted l b) x l) (encrypted-row l b)))
+
+-- ---- grant
+
+module _ (b : Book) (h : sound b ≡ true) (r u : ℕ) (l : r < length (b .resources)) (un : u < b .users) where
+  abbrev c : Book
+  c = letInBook r u b
+
+  abbrev d : Book
+  d = lockedBook r u b
+
+  s : Started b c r u
+  s = grant-starts b h r u l un
+
+  -- the neighbours' locks leave the row of r as the list left it
+  pub locked-row : resource d r ≡ record { list = grantedList r u b; inner = resource b r .inner; outer = resource b r .outer }
+  locked-row =
+      ap (λ (x : Book). resource x r) (locked-book b h r u l un)
+      ∙ group-others (waiters b r u) (holdersOf b r) c r (λ i m e. waiters-mem b r u m .1 .other (sym e))
+      ∙ s .row
+
+  old-set : (w : ℕ) → w < length (b .outer .sets) → setOf (d .outer) w ≡ setOf (b .outer) w
+  old-set w k = go (locked-outer b h r u l un)
+    where
+      go : (d .outer ≡ b .outer) ⊎ ((d .outer ≡ withVertex (b .outer) (holdersOf b r)) × (b .mode ≡ 1) × (has (holdersOf b r) u ≡ false)) → setOf (d .outer) w ≡ setOf (b .outer) w
+      go (inl e) = ap (λ (L : Layer). setOf L w) e
+      go (inr (e, m, o)) = ap (λ (L : Layer). setOf L w) e ∙ withVertex-set (b .outer) (holdersOf b r) w k
+
+  same-lock : (x : Resource) (t : ℕ) → Place (length (b .outer .sets)) x → lockedFor d x t ≡ lockedFor b x t
+  unfolding lockedFor hasOuter
+  same-lock x t (inl e) = rw e
+  same-lock x t (inr k) = rw (old-set (x .outer) k)
+
+  -- "if r's outer vertex has set U, nothing" is never met by r itself
+  pub own-lock : has (resource b r .list) u ≡ false → lockedFor d (resource d r) (grantedList r u b) ≡ false
+  unfolding lockedFor hasOuter
+  own-lock out =
+      ap (λ (x : Resource). lockedFor d x (grantedList r u b)) locked-row
+      ∙ same-lock (resource b r) (grantedList r u b) (sound-kept b h .place (resource b r) (member b r l))
+      ∙ new-list-loose b (resource b r) (grantedList r u b) (sound-locked b h r l) (λ e.
+      true≢false (sym (has-union-right (resource b r .list) (single u) u (has-own u)) ∙ ap (λ (x : ℕ). has x u) e ∙ out))
+
+  -- the last step of a grant
+  pub settle-plan : has (resource b r .list) u ≡ false
+      → settle r d
+      ≡ cond (eqb (b .mode) 1 && eqb (holdersOf c r) (grantedList r u b)) (cond (hasOuter (resource b r)) (relock r none d) (done d []))
+      (outerVertex (grantedList r u b) d then relock r (vertexFor (d .outer) (grantedList r u b)))
+  unfolding settle unlock lockList hasOuter
+  settle-plan out =
+      ap₂ (λ (x : Bool × Bool) (e : Done). cond (x .0) (cond (x .1) (relock r none d) (done d [])) e)
+      (ap₂ (λ (x y : Bool). (x, y)) (settled-before b h r u l un) (ap hasOuter locked-row))
+      (ap (λ (x : Resource). lock r (x .list) d) locked-row ∙ lock-loose r d (grantedList r u b) (own-lock out))
