@@ -78,14 +78,63 @@ cover-size L s =
       size-zero,
     )
 
--- an order for the vertex, and one for each token
-pub vertex-orders : (kv kt : ℕ) (L : Layer) (s : ℕ) → length (vertexOrders kv kt L s) ≤ 1 + size s
-unfolding vertexOrders
-vertex-orders kv kt L s = go (found L s)
+-- ---- the rows that a vertex for s adds to a layer
+
+unfoldable pub newVertices : Layer → ℕ → ℕ
+newVertices L s = cond (found L s) 0 1
+
+unfoldable pub newTokens : Layer → ℕ → ℕ
+newTokens L s = cond (found L s) 0 (length (cover L s))
+
+pub newVertices-one : (L : Layer) (s : ℕ) → newVertices L s ≤ 1
+unfolding newVertices
+newVertices-one L s = go (found L s)
   where
-    go : (z : Bool) → length (cond z [] (order kv (vertexFor L s) 0 ∷ map (λ v. order kt v (vertexFor L s)) (cover L s))) ≤ 1 + size s
+    go : (z : Bool) → cond z 0 1 ≤ 1
     go true = omega arith
-    go false = omega (arith, length-map (cover L s) (λ v. order kt v (vertexFor L s)), cover-size L s)
+    go false = omega arith
+
+pub newTokens-size : (L : Layer) (s : ℕ) → newTokens L s ≤ size s
+unfolding newTokens
+newTokens-size L s = go (found L s)
+  where
+    go : (z : Bool) → cond z 0 (length (cover L s)) ≤ size s
+    go true = omega arith
+    go false = cover-size L s
+
+pub withVertex-vertices : (L : Layer) (s : ℕ) → length (withVertex L s .sets) ≡ length (L .sets) + newVertices L s
+unfolding withVertex newVertices
+withVertex-vertices L s = go (found L s)
+  where
+    go : (z : Bool)
+        → length ((cond z L (record { sets = L .sets ++ (s ∷ []); tokens = L .tokens ++ map (λ v. token v (length (L .sets)) 0) (cover L s) })) .sets)
+        ≡ length (L .sets) + cond z 0 1
+    go true = omega arith
+    go false = length-append (L .sets) (s ∷ [])
+
+pub withVertex-tokens : (L : Layer) (s : ℕ) → length (withVertex L s .tokens) ≡ length (L .tokens) + newTokens L s
+unfolding withVertex newTokens
+withVertex-tokens L s = go (found L s)
+  where
+    go : (z : Bool)
+        → length ((cond z L (record { sets = L .sets ++ (s ∷ []); tokens = L .tokens ++ map (λ v. token v (length (L .sets)) 0) (cover L s) })) .tokens)
+        ≡ length (L .tokens) + cond z 0 (length (cover L s))
+    go true = omega arith
+    go false =
+        omega (
+          arith,
+          length-append (L .tokens) (map (λ v. token v (length (L .sets)) 0) (cover L s)),
+          length-map (cover L s) (λ v. token v (length (L .sets)) 0),
+        )
+
+-- an order for each
+pub vertexOrders-count : (kv kt : ℕ) (L : Layer) (s : ℕ) → length (vertexOrders kv kt L s) ≡ newVertices L s + newTokens L s
+unfolding vertexOrders newVertices newTokens
+vertexOrders-count kv kt L s = go (found L s)
+  where
+    go : (z : Bool) → length (cond z [] (order kv (vertexFor L s) 0 ∷ map (λ v. order kt v (vertexFor L s)) (cover L s))) ≡ cond z 0 1 + cond z 0 (length (cover L s))
+    go true = refl
+    go false = omega (arith, length-map (cover L s) (λ v. order kt v (vertexFor L s)))
 
 -- ---- a vertex that is there is used
 
@@ -96,16 +145,6 @@ withVertex-found L s e = rw e
 pub vertexOrders-found : (kv kt : ℕ) (L : Layer) (s : ℕ) → found L s ≡ true → vertexOrders kv kt L s ≡ []
 unfolding vertexOrders
 vertexOrders-found kv kt L s e = rw e
-
--- a layer grows by one vertex at most
-pub withVertex-one : (L : Layer) (s : ℕ) → length (withVertex L s .sets) ≤ length (L .sets) + 1
-unfolding withVertex
-withVertex-one L s = go (found L s)
-  where
-    go : (z : Bool)
-        → length ((cond z L (record { sets = L .sets ++ (s ∷ []); tokens = L .tokens ++ map (λ v. token v (length (L .sets)) 0) (cover L s) })) .sets) ≤ length (L .sets) + 1
-    go true = omega arith
-    go false = omega (arith, length-append (L .sets) (s ∷ []))
 
 module _ {A : Type 0} (p : A → Bool) where
   -- the first of two lists has it

@@ -27,7 +27,7 @@ use Rattle.rules.proofs.LockLaws.{Kept}
 use Rattle.rules.proofs.RevokeLaws.{AllLocked, open?, member}
 use Rattle.rules.proofs.GrantLaws.{Passed, lockAll-laws}
 use Rattle.rules.proofs.SoundLaws.{sound-kept, sound-locked}
-use Rattle.rules.proofs.CountLaws.{found-made, vertex-made, found-kept, cover-beside, withVertex-found, vertexOrders-found}
+use Rattle.rules.proofs.CountLaws.{newVertices, newTokens, vertexOrders-count, withVertex-vertices, withVertex-tokens, found-made, vertex-made, found-kept, cover-beside, withVertex-found, vertexOrders-found}
 use Rattle.rules.proofs.NeighbourLaws.{Started, grantedList, letInBook, length-keep-less, grouped-fewer, neighbour-in-order, neighbour-open, then-same, after-nothing, waits, waiters, Waits, waits-are, grant-starts, run-waiters, grant-plain, room-for-all}
 
 pub then-assoc : (d : Done) (f g : Book → Done) → (d then f) then g ≡ d then (λ b. f b then g)
@@ -135,6 +135,30 @@ unfolding lockGroup _then_ outerVertex done withOuter resource
 group-others [] s b j n = refl
 group-others (i ∷ is) s b j n = relockAll-others (i ∷ is) (vertexFor (b .outer) s) (outerVertex s b .book) j n
 
+-- n where the group has a member
+abbrev pub ifAny : List ℕ → ℕ → ℕ
+ifAny [] n = 0
+ifAny (i ∷ is) n = n
+
+pub group-count : (is : List ℕ) (s : ℕ) (b : Book) → length (lockGroup is s b .orders) ≡ ifAny is (newVertices (b .outer) s + newTokens (b .outer) s + length is)
+unfolding lockGroup done
+group-count [] s b = refl
+group-count (i ∷ is) s b =
+    ap length (group-orders i is s b)
+    ∙ length-append (vertexOrders 1 2 (b .outer) s) (map (λ j. order 3 j (vertexFor (b .outer) s)) (i ∷ is))
+    ∙ ap₂ (λ (m n : ℕ). m + n) (vertexOrders-count 1 2 (b .outer) s) (length-map (i ∷ is) (λ j. order 3 j (vertexFor (b .outer) s)))
+
+-- the rows of the outer layer
+pub group-vertices : (is : List ℕ) (s : ℕ) (b : Book) → length (lockGroup is s b .book .outer .sets) ≡ length (b .outer .sets) + ifAny is (newVertices (b .outer) s)
+unfolding lockGroup done
+group-vertices [] s b = omega arith
+group-vertices (i ∷ is) s b = ap (λ (L : Layer). length (L .sets)) (group-outer i is s b) ∙ withVertex-vertices (b .outer) s
+
+pub group-tokens : (is : List ℕ) (s : ℕ) (b : Book) → length (lockGroup is s b .book .outer .tokens) ≡ length (b .outer .tokens) + ifAny is (newTokens (b .outer) s)
+unfolding lockGroup done
+group-tokens [] s b = omega arith
+group-tokens (i ∷ is) s b = ap (λ (L : Layer). length (L .tokens)) (group-outer i is s b) ∙ withVertex-tokens (b .outer) s
+
 -- ---- the group of a grant
 
 every-from : (i k n : ℕ) → i < k → every (unequal i) (tabulateFrom k n (λ j. j)) ≡ true
@@ -230,10 +254,11 @@ module _ (b : Book) (h : sound b ≡ true) (r u : ℕ) (l : r < length (b .resou
       ∙ ap (λ (d : Done). d then settle r)
       (then-same (done (withList b r (grantedList r u b)) [] then letIn r u) (lockAll (waiters b r u)) (lockGroup (waiters b r u) (holdersOf b r)) run-group)
 
+  pub locked-group : lockAll (grouped [] (neighbours r c)) c ≡ lockGroup (waiters b r u) (holdersOf b r) c
+  locked-group = run-waiters b c (sound-kept b h) (sound-locked b h) r u l s (room-for-all b h r u l un) ∙ run-group
+
   pub locked-book : lockedBook r u b ≡ lockGroup (waiters b r u) (holdersOf b r) c .book
-  locked-book =
-      ap (λ (d : Done). d .book)
-      (run-waiters b c (sound-kept b h) (sound-locked b h) r u l s (room-for-all b h r u l un) ∙ run-group)
+  locked-book = ap (λ (d : Done). d .book) locked-group
 
   pub run-passed : Passed c (lockedBook r u b) (grouped [] (neighbours r c))
   run-passed =

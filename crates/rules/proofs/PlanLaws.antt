@@ -19,13 +19,14 @@ use Rattle.rules.specs.Book.{Book, Resource, none, resource, hasOuter, w
 use Rattle.rules.specs.Holders.{holders, holdersOf}
 use Rattle.rules.specs.Sound.{locked, lockedFor, sound}
 use Rattle.rules.specs.Requests.{Done, done, order, _then_, vertexOrders, innerVertex, outerVertex, relock, lock, unlock, lockList, lockAll, agrees, encrypt, lockNew, insert, letIn, neighbours, grouped, settle, grant, revoke}
-use Rattle.sets.proofs.Laws.{has-minus, has-union-right, has-own}
+use Rattle.sets.proofs.Laws.{has-within, same-within, has-minus, has-union-left, has-union-right, has-union-cases, has-own, has-single}
 use Rattle.rules.proofs.LockLaws.{Place, Kept}
 use Rattle.rules.proofs.RevokeLaws.{AllLocked, member}
 use Rattle.rules.proofs.OpensLaws.{locked-cases}
 use Rattle.rules.proofs.SoundLaws.{sound-kept, sound-locked}
+use Rattle.rules.proofs.CountLaws.{newVertices, newTokens, vertexOrders-count, withVertex-vertices, withVertex-tokens}
 use Rattle.rules.proofs.NeighbourLaws.{Started, grantedList, letInBook, waiters, grant-starts}
-use Rattle.rules.proofs.GroupLaws.{lockGroup, group-orders, group-outer, group-others, waiters-mem, lockedBook, withVertex-set, grant-group, locked-book, run-passed, settled-before, locked-outer, second-cover, second-found}
+use Rattle.rules.proofs.GroupLaws.{lockGroup, ifAny, group-orders, group-count, group-vertices, group-tokens, locked-group, group-outer, group-others, waiters-mem, lockedBook, withVertex-set, grant-group, locked-book, run-passed, settled-before, locked-outer, second-cover, second-found}
 
 -- ---- a list that has just changed is never locked for already
 
@@ -45,6 +46,15 @@ new-list-loose b x s h n = go (locked-cases b x h)
 pub lock-loose : (i : ℕ) (c : Book) (s : ℕ) → lockedFor c (resource c i) s ≡ false → lock i s c ≡ outerVertex s c then relock i (vertexFor (c .outer) s)
 unfolding lock
 lock-loose i c s e = rw e
+
+pub union-has : (s u : ℕ) → has s u ≡ true → union s (single u) ≡ s
+union-has s u h =
+    same-within (union s (single u)) s (has-within (union s (single u)) s (λ z k. go z (has-union-cases s (single u) z k)))
+    (has-within s (union s (single u)) (λ z k. has-union-left s (single u) z k))
+  where
+    go : (z : ℕ) → (has s z ≡ true) ⊎ (has (single u) z ≡ true) → has s z ≡ true
+    go z (inl k) = k
+    go z (inr k) = ap (has s) (eqb-true z u (sym (has-single u z) ∙ k)) ∙ h
 
 -- the row of r with another list
 pub row-listed : (b : Book) (r s : ℕ) → r < length (b .resources)
@@ -97,6 +107,10 @@ insert-plan l b =
 
 -- ---- grant
 
+-- r will have no outer key: in delta mode, where the holders will be what the list will be
+unfoldable pub agreed : ℕ → ℕ → Book → Bool
+agreed r u b = eqb (b .mode) 1 && eqb (union (holdersOf b r) (single u)) (grantedList r u b)
+
 module _ (b : Book) (h : sound b ≡ true) (r u : ℕ) (l : r < length (b .resources)) (un : u < b .users) where
   abbrev c : Book
   c = letInBook r u b
@@ -145,3 +159,71 @@ module _ (b : Book) (h : sound b ≡ true) (r u : ℕ) (l : r < length (b .resou
       ap₂ (λ (x : Bool × Bool) (e : Done). cond (x .0) (cond (x .1) (relock r none d) (done d [])) e)
       (ap₂ (λ (x y : Bool). (x, y)) (settled-before b h r u l un) (ap hasOuter locked-row))
       (ap (λ (x : Resource). lock r (x .list) d) locked-row ∙ lock-loose r d (grantedList r u b) (own-lock out))
+
+  -- ---- counted on the tables as they are
+
+  -- the holders afterwards
+  pub granted-holders : holdersOf c r ≡ union (holdersOf b r) (single u)
+  granted-holders = go (s .grew)
+    where
+      go : ((has (holdersOf b r) u ≡ true) × (holdersOf c r ≡ holdersOf b r))
+          ⊎ ((has (holdersOf b r) u ≡ false) × (holdersOf c r ≡ union (holdersOf b r) (single u))) → holdersOf c r ≡ union (holdersOf b r) (single u)
+      go (inl (p, q)) = q ∙ sym (union-has (holdersOf b r) u p)
+      go (inr (p, q)) = q
+
+  agreed-are : (eqb (b .mode) 1 && eqb (holdersOf c r) (grantedList r u b)) ≡ agreed r u b
+  unfolding agreed
+  agreed-are = ap (λ (x : ℕ). eqb (b .mode) 1 && eqb x (grantedList r u b)) granted-holders
+
+  second-vertices : newVertices (d .outer) (grantedList r u b) ≡ newVertices (b .outer) (grantedList r u b)
+  unfolding newVertices
+  second-vertices = ap (λ (z : Bool). cond z 0 1) (second-found b h r u l un)
+
+  second-tokens : agreed r u b ≡ false → newTokens (d .outer) (grantedList r u b) ≡ newTokens (b .outer) (grantedList r u b)
+  unfolding newTokens
+  second-tokens e =
+      ap₂ (λ (z : Bool) (vs : List ℕ). cond z 0 (length vs)) (second-found b h r u l un)
+      (second-cover b h r u l un (settled-before b h r u l un ∙ agreed-are ∙ e))
+
+  -- the outer layer after a grant
+  pub grant-outer : has (resource b r .list) u ≡ false → grant r u b .book .outer ≡ cond (agreed r u b) (d .outer) (withVertex (d .outer) (grantedList r u b))
+  unfolding grant _then_ done relock outerVertex withLock withResources withOuter
+  grant-outer out = ap (λ (e : Done). e .book .outer) (settle-plan out) ∙ go (eqb (b .mode) 1 && eqb (holdersOf c r) (grantedList r u b)) (hasOuter (resource b r)) agreed-are
+    where
+      go : (z w : Bool) → z ≡ agreed r u b
+          → cond z (cond w (relock r none d) (done d [])) (outerVertex (grantedList r u b) d then relock r (vertexFor (d .outer) (grantedList r u b))) .book .outer
+          ≡ cond (agreed r u b) (d .outer) (withVertex (d .outer) (grantedList r u b))
+      go true true e = ap (λ (x : Bool). cond x (d .outer) (withVertex (d .outer) (grantedList r u b))) e
+      go true false e = ap (λ (x : Bool). cond x (d .outer) (withVertex (d .outer) (grantedList r u b))) e
+      go false w e = ap (λ (x : Bool). cond x (d .outer) (withVertex (d .outer) (grantedList r u b))) e
+
+  module _ (out : has (resource b r .list) u ≡ false) where
+    pub grant-vertices : length (grant r u b .book .outer .sets)
+        ≡ length (b .outer .sets) + ifAny (waiters b r u) (newVertices (b .outer) (holdersOf b r)) + cond (agreed r u b) 0 (newVertices (b .outer) (grantedList r u b))
+    grant-vertices = ap (λ (L : Layer). length (L .sets)) (grant-outer out) ∙ go (agreed r u b)
+      where
+        first : length (d .outer .sets) ≡ length (b .outer .sets) + ifAny (waiters b r u) (newVertices (b .outer) (holdersOf b r))
+        first =
+            ap (λ (x : Book). length (x .outer .sets)) (locked-book b h r u l un)
+            ∙ group-vertices (waiters b r u) (holdersOf b r) c
+            ∙ ap (λ (L : Layer). length (L .sets) + ifAny (waiters b r u) (newVertices L (holdersOf b r))) (s .outer)
+
+        go : (z : Bool) → length ((cond z (d .outer) (withVertex (d .outer) (grantedList r u b))) .sets)
+            ≡ length (b .outer .sets) + ifAny (waiters b r u) (newVertices (b .outer) (holdersOf b r)) + cond z 0 (newVertices (b .outer) (grantedList r u b))
+        go true = omega (arith, first)
+        go false = omega (arith, first, withVertex-vertices (d .outer) (grantedList r u b), second-vertices)
+
+    pub grant-tokens : length (grant r u b .book .outer .tokens)
+        ≡ length (b .outer .tokens) + ifAny (waiters b r u) (newTokens (b .outer) (holdersOf b r)) + cond (agreed r u b) 0 (newTokens (b .outer) (grantedList r u b))
+    grant-tokens = ap (λ (L : Layer). length (L .tokens)) (grant-outer out) ∙ go (agreed r u b) refl
+      where
+        first : length (d .outer .tokens) ≡ length (b .outer .tokens) + ifAny (waiters b r u) (newTokens (b .outer) (holdersOf b r))
+        first =
+            ap (λ (x : Book). length (x .outer .tokens)) (locked-book b h r u l un)
+            ∙ group-tokens (waiters b r u) (holdersOf b r) c
+            ∙ ap (λ (L : Layer). length (L .tokens) + ifAny (waiters b r u) (newTokens L (holdersOf b r))) (s .outer)
+
+        go : (z : Bool) → agreed r u b ≡ z → length ((cond z (d .outer) (withVertex (d .outer) (grantedList r u b))) .tokens)
+            ≡ length (b .outer .tokens) + ifAny (waiters b r u) (newTokens (b .outer) (holdersOf b r)) + cond z 0 (newTokens (b .outer) (grantedList r u b))
+        go true e = omega (arith, first)
+        go false e = omega (arith, first, withVertex-tokens (d .outer) (grantedList r u b), second-tokens e)
