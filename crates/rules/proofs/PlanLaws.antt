@@ -107,6 +107,31 @@ insert-plan l b =
 
 -- ---- grant
 
+-- one order and one kind 1 token where u is no holder
+letIn-counts : (r u : ℕ) (b : Book)
+    → (length (letIn r u b .orders) ≡ cond (has (holdersOf b r) u) 0 1)
+    × (length (letIn r u b .book .inner .tokens) ≡ length (b .inner .tokens) + cond (has (holdersOf b r) u) 0 1)
+unfolding letIn done withInner
+letIn-counts r u b = go (has (holdersOf b r) u)
+  where
+    o : ℕ
+    o = vertexFor (b .inner) (single u)
+
+    v : ℕ
+    v = resource b r .inner
+
+    did : Bool → Done
+    did z = cond z (done b []) (done (withInner b (record { sets = b .inner .sets; tokens = b .inner .tokens ++ (token o v 1 ∷ []) })) (order 6 o v ∷ []))
+
+    go : (z : Bool) → (length (did z .orders) ≡ cond z 0 1) × (length (did z .book .inner .tokens) ≡ length (b .inner .tokens) + cond z 0 1)
+    go true = (refl, omega arith)
+    go false = (refl, length-append (b .inner .tokens) (token o v 1 ∷ []))
+
+-- a list changes no holder
+holders-listed : (b : Book) (r s : ℕ) → r < length (b .resources) → holdersOf (withList b r s) r ≡ holdersOf b r
+unfolding holdersOf withList withResources
+holders-listed b r s l = ap (λ (x : Resource). holders (b .inner) (x .inner)) (row-listed b r s l)
+
 -- r will have no outer key: in delta mode, where the holders will be what the list will be
 unfoldable pub agreed : ℕ → ℕ → Book → Bool
 agreed r u b = eqb (b .mode) 1 && eqb (union (holdersOf b r) (single u)) (grantedList r u b)
@@ -227,3 +252,68 @@ module _ (b : Book) (h : sound b ≡ true) (r u : ℕ) (l : r < length (b .resou
             ≡ length (b .outer .tokens) + ifAny (waiters b r u) (newTokens (b .outer) (holdersOf b r)) + cond z 0 (newTokens (b .outer) (grantedList r u b))
         go true e = omega (arith, first)
         go false e = omega (arith, first, withVertex-tokens (d .outer) (grantedList r u b), second-tokens e)
+
+    -- an order for the kind 1 token, those of the group of neighbours, and those of r
+    pub grant-orders : length (grant r u b .orders)
+        ≡ cond (has (holdersOf b r) u) 0 1
+        + ifAny (waiters b r u) (newVertices (b .outer) (holdersOf b r) + newTokens (b .outer) (holdersOf b r) + length (waiters b r u))
+        + cond (agreed r u b) (cond (hasOuter (resource b r)) 1 0)
+        (newVertices (b .outer) (grantedList r u b) + newTokens (b .outer) (grantedList r u b) + 1)
+    unfolding grant _then_ done relock outerVertex
+    grant-orders =
+        omega (
+          arith,
+          length-append (letIn r u (withList b r (grantedList r u b)) .orders ++ lockAll (grouped [] (neighbours r c)) c .orders) (settle r d .orders),
+          length-append (letIn r u (withList b r (grantedList r u b)) .orders) (lockAll (grouped [] (neighbours r c)) c .orders),
+          letIn-counts r u (withList b r (grantedList r u b)) .0
+              ∙ ap {B = ℕ} (λ (x : ℕ). cond (has x u) 0 1) (holders-listed b r (grantedList r u b) l),
+          ap (λ (e : Done). length (e .orders)) (locked-group b h r u l un)
+              ∙ group-count (waiters b r u) (holdersOf b r) c
+              ∙ ap (λ (L : Layer). ifAny (waiters b r u) (newVertices L (holdersOf b r) + newTokens L (holdersOf b r) + length (waiters b r u))) (s .outer),
+          last,
+        )
+      where
+        t : ℕ
+        t = grantedList r u b
+
+        own : (z : Bool) → agreed r u b ≡ z → (w : Bool)
+            → length (cond z (cond w (relock r none d) (done d [])) (outerVertex t d then relock r (vertexFor (d .outer) t)) .orders)
+            ≡ cond z (cond w 1 0) (newVertices (b .outer) t + newTokens (b .outer) t + 1)
+        own true e true = refl
+        own true e false = refl
+        own false e w =
+            omega (
+              arith,
+              length-append (vertexOrders 1 2 (d .outer) t) (order 3 r (vertexFor (d .outer) t) ∷ []),
+              vertexOrders-count 1 2 (d .outer) t,
+              second-vertices,
+              second-tokens e,
+            )
+
+        last : length (settle r d .orders) ≡ cond (agreed r u b) (cond (hasOuter (resource b r)) 1 0) (newVertices (b .outer) t + newTokens (b .outer) t + 1)
+        last =
+            ap (λ (e : Done). length (e .orders)) (settle-plan out)
+            ∙ ap (λ (z : Bool). length (cond z (cond (hasOuter (resource b r)) (relock r none d) (done d [])) (outerVertex t d then relock r (vertexFor (d .outer) t)) .orders)) agreed-are
+            ∙ own (agreed r u b) refl (hasOuter (resource b r))
+
+  -- the inner layer: one token where u is no holder, and no vertex
+  pub grant-inner : grant r u b .book .inner ≡ c .inner
+  unfolding grant _then_ done settle unlock lockList lock relock outerVertex withLock withResources withOuter
+  grant-inner =
+      go (eqb (d .mode) 1 && agrees d r) (hasOuter (resource d r)) (lockedFor d (resource d r) (resource d r .list)) ∙ run-passed b h r u l un .inner
+    where
+      go : (x y z : Bool)
+          → cond x (cond y (relock r none d) (done d []))
+          (cond z (done d []) (outerVertex (resource d r .list) d then relock r (vertexFor (d .outer) (resource d r .list)))) .book .inner
+          ≡ d .inner
+      go true true z = refl
+      go true false z = refl
+      go false y true = refl
+      go false y false = refl
+
+  pub grant-inner-tokens : length (grant r u b .book .inner .tokens) ≡ length (b .inner .tokens) + cond (has (holdersOf b r) u) 0 1
+  unfolding withList withResources
+  grant-inner-tokens =
+      ap (λ (L : Layer). length (L .tokens)) grant-inner
+      ∙ letIn-counts r u (withList b r (grantedList r u b)) .1
+      ∙ ap {B = ℕ} (λ (x : ℕ). length (b .inner .tokens) + cond (has x u) 0 1) (holders-listed b r (grantedList r u b) l)
