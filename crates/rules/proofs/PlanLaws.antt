@@ -7,24 +7,28 @@ use mathlib.Core.Logic.{_⊎_, inl, inr, _≢_}
 use mathlib.Core.List.{List, [], _∷_, _++_, map, List·Memᴰ, List·Memᴰ·head, List·Memᴰ·tail}
 use native.Mathlib.Nat.{le-refl, add-zero}
 use native.Mathlib.Omega.{arith}
+use lib.Bits.{or-zero-r}
 use lib.Dec.{eqb}
 use lib.ListN.{length, getD, set, length-append, length-map}
 use lib.Seq.{getD-set-same, getD-append-seam}
-use borrow.Author.Tests.{eqb-true, eqb-false, eq-eqb, ne-eqb, not-true, not-false}
+use borrow.Author.Tests.{eqb-true, eqb-false, eq-eqb, ne-eqb, not-true, not-false, ltb-false}
 use Rattle.sets.specs.Sets.{has, minus, single, union}
 use Rattle.rules.specs.Layer.{Layer, token, setOf, cover, found, vertexFor, withVertex}
 use Rattle.rules.specs.declared.Token.{Token}
 use Rattle.rules.specs.declared.Order.{Order}
 use Rattle.rules.specs.Book.{Book, Resource, none, resource, hasOuter, withInner, withOuter, withResources, withList, withLock}
-use Rattle.rules.specs.Holders.{holders, holdersOf}
+use Rattle.rules.specs.Holders.{into, sources, byToken, holders, holdersOf}
 use Rattle.rules.specs.Sound.{locked, lockedFor, sound}
 use Rattle.rules.specs.Requests.{Done, done, order, _then_, vertexOrders, innerVertex, outerVertex, relock, lock, unlock, lockList, lockAll, agrees, encrypt, lockNew, insert, letIn, neighbours, grouped, settle, grant, revoke}
 use Rattle.sets.proofs.Laws.{has-within, same-within, has-minus, has-union-left, has-union-right, has-union-cases, has-own, has-single}
+use Rattle.rules.proofs.ListLaws.{keep-none}
+use Rattle.rules.proofs.LayerLaws.{Layered}
+use Rattle.rules.proofs.VertexLaws.{Grown, grown}
 use Rattle.rules.proofs.LockLaws.{Place, Kept}
 use Rattle.rules.proofs.RevokeLaws.{AllLocked, member}
 use Rattle.rules.proofs.OpensLaws.{locked-cases}
 use Rattle.rules.proofs.SoundLaws.{sound-kept, sound-locked}
-use Rattle.rules.proofs.CountLaws.{newVertices, newTokens, vertexOrders-count, withVertex-vertices, withVertex-tokens}
+use Rattle.rules.proofs.CountLaws.{newVertices, newTokens, vertexOrders-count, withVertex-vertices, withVertex-tokens, withVertex-found}
 use Rattle.rules.proofs.NeighbourLaws.{Started, grantedList, letInBook, waiters, grant-starts}
 use Rattle.rules.proofs.GroupLaws.{lockGroup, ifAny, group-orders, group-count, group-vertices, group-tokens, locked-group, group-outer, group-others, waiters-mem, lockedBook, withVertex-set, grant-group, locked-book, run-passed, settled-before, locked-outer, second-cover, second-found}
 
@@ -83,6 +87,22 @@ revoke-plan b h r u l listed =
     ∙ new-list-loose b (resource b r) s (sound-locked b h r l) (λ e. true≢false (sym listed ∙ ap (λ (x : ℕ). has x u) (sym e) ∙ revoked b r u)) in
     ap (λ (x : Resource). lock r (x .list) (withList b r s)) (row-listed b r s l) ∙ lock-loose r (withList b r s) s loose
 
+module _ (b : Book) (h : sound b ≡ true) (r u : ℕ) (l : r < length (b .resources)) (listed : has (resource b r .list) u ≡ true) where
+  pub revoke-outer : revoke r u b .book .outer ≡ withVertex (b .outer) (revokedList r u b)
+  unfolding _then_ outerVertex relock done withList withLock withResources withOuter
+  revoke-outer = ap (λ (d : Done). d .book .outer) (revoke-plan b h r u l listed)
+
+  pub revoke-inner : revoke r u b .book .inner ≡ b .inner
+  unfolding _then_ outerVertex relock done withList withLock withResources withOuter
+  revoke-inner = ap (λ (d : Done). d .book .inner) (revoke-plan b h r u l listed)
+
+  pub revoke-orders : length (revoke r u b .orders) ≡ newVertices (b .outer) (revokedList r u b) + newTokens (b .outer) (revokedList r u b) + 1
+  unfolding _then_ outerVertex relock done withList withResources
+  revoke-orders =
+      ap (λ (d : Done). length (d .orders)) (revoke-plan b h r u l listed)
+      ∙ length-append (vertexOrders 1 2 (b .outer) (revokedList r u b)) (order 3 r (vertexFor (b .outer) (revokedList r u b)) ∷ [])
+      ∙ ap (λ (n : ℕ). n + 1) (vertexOrders-count 1 2 (b .outer) (revokedList r u b))
+
 -- ---- insert: a new row has no outer key
 
 -- the book with the new row
@@ -104,6 +124,73 @@ insert-plan l b =
     ap (λ (d : Done). innerVertex l b then encrypt l (vertexFor (b .inner) l) then (λ c. cond (eqb (b .mode) 1 && agrees c (length (b .resources))) (done c []) d))
     (ap (λ (x : Resource). lock (length (b .resources)) (x .list) (encrypted l b)) (encrypted-row l b)
     ∙ lock-loose (length (b .resources)) (encrypted l b) l (ap (λ (x : Resource). lockedFor (encrypted l b) x l) (encrypted-row l b)))
+
+-- nobody is let in at a new vertex
+made-holders : {n : ℕ} {L K : Layer} {s v : ℕ} → Layered n L → Grown n L K s v → length (L .sets) ≤ v → holders K v ≡ s
+unfolding holders byToken into sources
+made-holders {n} {L} {K} {s} {v} g w m =
+    ap₂ union (w .vertex)
+    (ap (sources K) (w .lateral v ∙ keep-none (λ (t : Token). eqb (t .kind) 1 && eqb (t .to) v) (L .tokens) (λ t k.
+    ap (λ (z : Bool). eqb (t .kind) 1 && z) (ne-eqb (t .to) v (λ e. omega (arith, g .to< t k))) ∙ and-false (eqb (t .kind) 1))))
+    ∙ or-zero-r s
+
+-- no lock: in delta mode, where the holders are the list
+abbrev pub insertAgrees : ℕ → Book → Bool
+insertAgrees l b = eqb (b .mode) 1 && agrees (encrypted l b) (length (b .resources))
+
+module _ (l : ℕ) (b : Book) where
+  abbrev n : ℕ
+  n = length (b .resources)
+
+  -- the work after the resource is encrypted
+  abbrev last : Bool → Done
+  last z = cond z (done (encrypted l b) []) (outerVertex l (encrypted l b) then relock n (vertexFor (b .outer) l))
+
+  pub insert-inner : insert l b .book .inner ≡ withVertex (b .inner) l
+  unfolding _then_ innerVertex encrypt outerVertex relock done withInner withLock withResources withOuter
+  insert-inner = ap (λ (d : Done). d .book .inner) (insert-plan l b) ∙ go (insertAgrees l b)
+    where
+      go : (z : Bool) → last z .book .inner ≡ withVertex (b .inner) l
+      go true = refl
+      go false = refl
+
+  pub insert-outer : insert l b .book .outer ≡ cond (insertAgrees l b) (b .outer) (withVertex (b .outer) l)
+  unfolding _then_ innerVertex encrypt outerVertex relock done withInner withLock withResources withOuter
+  insert-outer = ap (λ (d : Done). d .book .outer) (insert-plan l b) ∙ go (insertAgrees l b)
+    where
+      go : (z : Bool) → last z .book .outer ≡ cond z (b .outer) (withVertex (b .outer) l)
+      go true = refl
+      go false = refl
+
+  pub insert-orders : length (insert l b .orders)
+      ≡ newVertices (b .inner) l + newTokens (b .inner) l + 1 + cond (insertAgrees l b) 0 (newVertices (b .outer) l + newTokens (b .outer) l + 1)
+  unfolding _then_ innerVertex encrypt outerVertex relock done withInner withLock withResources withOuter
+  insert-orders =
+      ap (λ (d : Done). length (d .orders)) (insert-plan l b)
+      ∙ length-append (vertexOrders 4 5 (b .inner) l ++ (order 7 n (vertexFor (b .inner) l) ∷ [])) (last (insertAgrees l b) .orders)
+      ∙ ap₂ (λ (x y : ℕ). x + y)
+      (length-append (vertexOrders 4 5 (b .inner) l) (order 7 n (vertexFor (b .inner) l) ∷ []) ∙ ap (λ (x : ℕ). x + 1) (vertexOrders-count 4 5 (b .inner) l))
+      (go (insertAgrees l b))
+    where
+      go : (z : Bool) → length (last z .orders) ≡ cond z 0 (newVertices (b .outer) l + newTokens (b .outer) l + 1)
+      go true = refl
+      go false =
+          length-append (vertexOrders 1 2 (b .outer) l) (order 3 n (vertexFor (b .outer) l) ∷ [])
+          ∙ ap (λ (x : ℕ). x + 1) (vertexOrders-count 1 2 (b .outer) l)
+
+  -- counted before: a vertex that is made has its set for holders
+  pub insert-agrees : sound b ≡ true → l < 2 ^ b .users
+      → agrees (encrypted l b) (length (b .resources)) ≡ (not (found (b .inner) l) || eqb (holders (b .inner) (vertexFor (b .inner) l)) l)
+  unfolding agrees holdersOf found _then_ innerVertex encrypt done withInner withResources
+  insert-agrees h lb =
+      ap (λ (x : Resource). eqb (holders (withVertex (b .inner) l) (x .inner)) (x .list)) (encrypted-row l b) ∙ go (found (b .inner) l) refl
+    where
+      go : (z : Bool) → found (b .inner) l ≡ z
+          → eqb (holders (withVertex (b .inner) l) (vertexFor (b .inner) l)) l ≡ (not z || eqb (holders (b .inner) (vertexFor (b .inner) l)) l)
+      go true e = ap (λ (L : Layer). eqb (holders L (vertexFor (b .inner) l)) l) (withVertex-found (b .inner) l e)
+      go false e =
+          eq-eqb (holders (withVertex (b .inner) l) (vertexFor (b .inner) l)) l
+          (made-holders (sound-kept b h .inner) (grown (b .users) (b .inner) (sound-kept b h .inner) l lb) (ltb-false (vertexFor (b .inner) l) (length (b .inner .sets)) e))
 
 -- ---- grant
 
