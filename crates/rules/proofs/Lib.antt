@@ -17,3 +17,4 @@ pub mod NeighbourLaws
 pub mod CountLaws
 pub mod GroupLaws
 pub mod PlanLaws
+pub mod OrderLaws
