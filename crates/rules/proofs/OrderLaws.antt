@@ -5,25 +5,34 @@ use mathlib.Core.Path.{_≡_, refl, sym, ap, ap₂, _∙_, subst}
 use mathlib.Core.Bool.{Bool, true, false, _&&_, _||_, not, cond, true≢false, false≢true}
 use mathlib.Core.Logic.{_⊎_, inl, inr, _≢_}
 use mathlib.Core.List.{List, [], _∷_, _++_, List·Memᴰ, List·Memᴰ·head}
-use mathlib.Core.Option.{Option, some, none, Option·none-ne-some}
+use mathlib.Core.Option.{Option, some, Option·none-ne-some}
+use mathlib.Core.Option as option
 use native.Mathlib.Nat.{le-refl, lt-of-le-of-lt}
 use native.Mathlib.Omega.{arith}
 use lib.Bits.{or-lt}
 use lib.Dec.{eqb, ltb, leb}
-use lib.ListN.{length}
+use lib.ListN.{length, getD, length-append}
 use lib.Pow.{pow-lt}
 use borrow.Author.Tests.{eqb-true, eqb-false, eq-eqb, ne-eqb, ltb-true, not-true, not-false}
 use Rattle.sets.specs.Sets.{has, within, inside, size, minus, single, union}
-use Rattle.rules.specs.Layer.{Layer, withVertex}
-use Rattle.rules.specs.Book.{Book, Resource, resource, hasOuter}
+use Rattle.rules.specs.Layer.{Layer, setOf, withVertex}
+use Rattle.rules.specs.Book.{Book, Resource, none, resource, hasOuter}
 use Rattle.rules.specs.Holders.{holders, holdersOf}
-use Rattle.rules.specs.Sound.{held, sound}
+use Rattle.rules.specs.Sound.{held, sound, maxResources}
+use Rattle.rules.specs.Open.{chain, direct, innerChain, outerChain}
 use Rattle.rules.specs.Requests.{join, insert, grant, revoke, done}
-use Rattle.rules.specs.Refusals.{verdict, Request, joins, inserts, grants, revokes, work, own, noSuch}
+use Rattle.rules.specs.Refusals.{verdict, Request, joins, inserts, grants, revokes, work, own, noSuch, opened}
 use Rattle.rules.specs.declared.Refusal.{Refusal}
-use Rattle.sets.proofs.Laws.{both, has-within, within-has, has-union-left, has-union-right, has-union-cases, size-inside}
+use Rattle.rules.specs.declared.Refusal.the-variants.{NoSuch, EmptyList, ResourcesFull, Listed, NotListed}
+use Rattle.sets.proofs.Laws.{both, has-within, within-has, has-union-left, has-union-right, has-union-cases, has-below, size-inside}
+use Rattle.rules.proofs.ListLaws.{getD-mem}
+use Rattle.rules.proofs.LayerLaws.{Layered}
+use Rattle.rules.proofs.RuleLaws.{layered-rules}
+use Rattle.rules.proofs.LockLaws.{Place, Kept}
+use Rattle.rules.proofs.OpensLaws.{locked-cases}
+use Rattle.rules.proofs.ChainLaws.{chain-laws}
 use Rattle.rules.proofs.RevokeLaws.{member}
-use Rattle.rules.proofs.SoundLaws.{sound-kept, sound-counts}
+use Rattle.rules.proofs.SoundLaws.{sound-kept, sound-locked, sound-counts}
 use Rattle.rules.proofs.CountLaws.{size-below, size-lacking, newVertices, newTokens, newVertices-one, newTokens-size, withVertex-vertices}
 use Rattle.rules.proofs.NeighbourLaws.{grantedList, waiters, Waits}
 use Rattle.rules.proofs.GroupLaws.{ifAny, waiters-mem, waiters-fewer}
@@ -184,3 +193,99 @@ module _ (b : Book) (h : sound b ≡ true) (r u : ℕ) (l : r < length (b .resou
             sound-counts b h .resources≤,
             own-few 63 (λ q. omega (arith, list-few i k w q, sound-counts b h .users≤)),
           )
+
+-- ---- all requests
+
+-- no refusal: every test fails
+verdict-none : (x : Refusal × Bool) (xs : List (Refusal × Bool)) → verdict (x ∷ xs) ≡ option.none → (x .1 ≡ false) × (verdict xs ≡ option.none)
+unfolding verdict
+verdict-none x xs = go (x .1)
+  where
+    go : (z : Bool) → cond z (some (x .0)) (verdict xs) ≡ option.none → (z ≡ false) × (verdict xs ≡ option.none)
+    go true e = absurd (Option·none-ne-some (x .0) (sym e))
+    go false e = (refl, e)
+
+there : (b : Book) (u r : ℕ) → noSuch b u r ≡ false → (u < b .users) × (r < length (b .resources))
+unfolding noSuch
+there b u r e =
+    let (p, q) = both (ltb u (b .users)) (ltb r (length (b .resources))) (not-false (ltb u (b .users) && ltb r (length (b .resources))) e) in
+    (ltb-true u (b .users) p, ltb-true r (length (b .resources)) q)
+
+-- the most orders of a request
+abbrev pub mostRows : Request → ℕ
+mostRows joins = 2
+mostRows (inserts l) = 132
+mostRows (grants r u) = 385
+mostRows (revokes r u) = 65
+
+-- of a request on a sound book that is not refused with 1 to 6
+pub rows-enough : (q : Request) (b : Book) → sound b ≡ true → verdict (own q b) ≡ option.none → length (work q b .orders) ≤ mostRows q
+unfolding work own
+rows-enough joins b h e = omega (arith, join-rows b)
+rows-enough (inserts l) b h e =
+    let (p, f) = verdict-none (NoSuch, not (ltb l (2 ^ b .users))) ((EmptyList, eqb l 0) ∷ (ResourcesFull, leb maxResources (length (b .resources))) ∷ []) e in
+    omega (arith, insert-rows l b, size-below (b .users) l (ltb-true l (2 ^ b .users) (not-false (ltb l (2 ^ b .users)) p)), sound-counts b h .users≤)
+rows-enough (grants r u) b h e =
+    let (p, f) = verdict-none (NoSuch, noSuch b u r) ((Listed, has (resource b r .list) u) ∷ []) e in
+    let (un, l) = there b u r p in
+    grant-rows b h r u l un (verdict-none (Listed, has (resource b r .list) u) [] f .0)
+rows-enough (revokes r u) b h e =
+    let (p, f) = verdict-none (NoSuch, noSuch b u r) ((NotListed, not (has (resource b r .list) u)) ∷ []) e in
+    let (un, l) = there b u r p in
+    omega (
+      arith,
+      revoke-rows b h r u l un (not-false (has (resource b r .list) u) (verdict-none (NotListed, not (has (resource b r .list) u)) [] f .0)),
+      sound-counts b h .users≤,
+    )
+
+-- ---- open: at most 63 rows of each layer
+
+module _ (b : Book) (h : sound b ≡ true) (u r : ℕ) (l : r < length (b .resources)) (listed : has (resource b r .list) u ≡ true) where
+  chain-rows : (L : Layer) → Layered (b .users) L → (v : ℕ) → v < length (L .sets) → has (setOf L v) u ≡ true → length (chain L u v) < b .users
+  unfolding setOf
+  chain-rows L g v k m =
+      let t = layered-rules (b .users) L g in
+      omega (
+        arith,
+        chain-laws L (t .rising′) (t .united′) u v m .1,
+        size-below (b .users) (getD (L .sets) v 0) (g .sets< (getD (L .sets) v 0) (getD-mem (L .sets) v 0 k)),
+      )
+
+  k : Kept b
+  k = sound-kept b h
+
+  users : 0 < b .users
+  users = omega (arith, has-below (b .users) (resource b r .list) u (k .list< (resource b r) (member b r l)) listed)
+
+  inner-rows : length (innerChain b u r) ≤ 63
+  unfolding innerChain
+  inner-rows = go (has (setOf (b .inner) (resource b r .inner)) u) refl
+    where
+      go : (z : Bool) → has (setOf (b .inner) (resource b r .inner)) u ≡ z
+          → length (cond z (chain (b .inner) u (resource b r .inner)) (direct (b .inner) u (resource b r .inner) ∷ [])) ≤ 63
+      go true e = omega (arith, chain-rows (b .inner) (k .inner) (resource b r .inner) (k .inner< (resource b r) (member b r l)) e, sound-counts b h .users≤)
+      go false e = omega arith
+
+  outer-rows : length (outerChain b u r) ≤ 63
+  unfolding outerChain hasOuter
+  outer-rows = go (locked-cases b (resource b r) (sound-locked b h r l)) (k .place (resource b r) (member b r l))
+    where
+      x : Resource
+      x = resource b r
+
+      at : x .outer < length (b .outer .sets) → setOf (b .outer) (x .outer) ≡ x .list → length (chain (b .outer) u (x .outer)) ≤ 63
+      at m e = omega (arith, chain-rows (b .outer) (k .outer) (x .outer) m (ap (λ (t : ℕ). has t u) e ∙ listed), sound-counts b h .users≤)
+
+      maybe : (z : Bool) → length (chain (b .outer) u (x .outer)) ≤ 63 → length (cond z (chain (b .outer) u (x .outer)) []) ≤ 63
+      maybe true m = m
+      maybe false m = omega arith
+
+      go : ((x .outer ≡ none) × (holders (b .inner) (x .inner) ≡ x .list)) ⊎ ((x .outer ≡ none → ⊥) × (setOf (b .outer) (x .outer) ≡ x .list))
+          → Place (length (b .outer .sets)) x → length (cond (not (eqb (x .outer) none)) (chain (b .outer) u (x .outer)) []) ≤ 63
+      go (inl (e, q)) p = rw e (omega arith)
+      go (inr (n, q)) (inl e) = absurd (n e)
+      go (inr (n, q)) (inr m) = maybe (not (eqb (x .outer) none)) (at m q)
+
+  pub open-rows : length (opened b u r) ≤ 126
+  unfolding opened
+  open-rows = omega (arith, length-append (innerChain b u r) (outerChain b u r), inner-rows, outer-rows)
