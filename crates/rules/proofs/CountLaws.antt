@@ -1,24 +1,23 @@
 -- How many vertices and tokens "New vertex for a set" adds, and what a second new vertex finds.
 -- Assumes nothing.
 use Prim.Native.Nat.{ℕ, zero, suc, _+_, _^_, _≤_, _<_}
-use mathlib.Core.Path.{_≡_, refl, sym, ap, ap₂, _∙_, subst}
-use mathlib.Core.Bool.{Bool, true, false, _&&_, not, cond, true≢false, false≢true}
+use mathlib.Core.Path.{_≡_, refl, sym, ap, ap₂, _∙_}
+use mathlib.Core.Bool.{Bool, true, false, _&&_, cond, true≢false}
 use mathlib.Core.Logic.{_⊎_, inl, inr, _≢_}
 use mathlib.Core.List.{List, [], _∷_, _++_, map, List·Memᴰ, List·Memᴰ·head, List·Memᴰ·tail, append-nil}
-use native.Mathlib.Nat.{le-refl, not-suc-le-zero, le-of-suc-le-suc, zero-add, suc-add, add-suc, add-zero}
+use native.Mathlib.Nat.{not-suc-le-zero, le-of-suc-le-suc, zero-add, suc-add, add-suc, add-zero}
 use native.Mathlib.Omega.{arith}
 use lib.Dec.{eqb, ltb}
 use lib.Bits.{or-lt}
 use lib.Count.{ones-le}
 use lib.ListN.{length, length-append, length-map}
 use lib.Pow.{pow-lt}
-use borrow.Author.Tests.{eqb-true, eqb-false, eq-eqb, ne-eqb, ltb-true, ltb-false, lt-ltb, le-ltb}
+use borrow.Author.Tests.{eq-eqb, ne-eqb, ltb-true, ltb-false, lt-ltb, le-ltb}
 use Rattle.sets.specs.Sets.{has, single, union, within, inside, size}
 use Rattle.rules.specs.Lists.{keep, first, numbered}
 use Rattle.rules.specs.Layer.{Layer, token, ofSize, bySize, takes, cover, vertexFor, found, withVertex}
-use Rattle.rules.specs.declared.Token.{Token}
 use Rattle.rules.specs.Requests.{order, vertexOrders}
-use Rattle.sets.proofs.Laws.{has-within, within-has, has-union-left, has-union-right, has-union-cases, has-own, size-ones, size-mono, size-inside, size-zero, within-union, within-empty, inside-within}
+use Rattle.sets.proofs.Laws.{has-within, within-has, has-union-left, has-union-cases, has-own, size-ones, size-mono, size-inside, size-zero, within-union, within-empty, inside-within}
 use Rattle.rules.proofs.ListLaws.{keep-append, first-le}
 use Rattle.rules.proofs.CoverLaws.{bySize-mem}
 
@@ -148,10 +147,10 @@ vertexOrders-found kv kt L s e = rw e
 
 module _ {A : Type 0} (p : A → Bool) where
   -- the first of two lists has it
-  pub first-hit : (xs ys : List A) → first p xs < length xs → first p (xs ++ ys) ≡ first p xs
+  pub first-left : (xs ys : List A) → first p xs < length xs → first p (xs ++ ys) ≡ first p xs
   unfolding first
-  first-hit [] ys h = absurd (not-suc-le-zero h)
-  first-hit (x ∷ xs) ys h = go (λ k. first-hit xs ys k) (p x) h
+  first-left [] ys h = absurd (not-suc-le-zero h)
+  first-left (x ∷ xs) ys h = go (λ k. first-left xs ys k) (p x) h
     where
       go : (first p xs < length xs → first p (xs ++ ys) ≡ first p xs) → (z : Bool) → cond z zero (suc (first p xs)) < suc (length xs)
           → cond z zero (suc (first p (xs ++ ys))) ≡ cond z zero (suc (first p xs))
@@ -159,10 +158,10 @@ module _ {A : Type 0} (p : A → Bool) where
       go ih false k = ap suc (ih (le-of-suc-le-suc k))
 
   -- it has not
-  pub first-miss : (xs ys : List A) → length xs ≤ first p xs → first p (xs ++ ys) ≡ length xs + first p ys
+  pub first-right : (xs ys : List A) → length xs ≤ first p xs → first p (xs ++ ys) ≡ length xs + first p ys
   unfolding first
-  first-miss [] ys h = sym (zero-add (first p ys))
-  first-miss (x ∷ xs) ys h = go (λ k. first-miss xs ys k) (p x) h
+  first-right [] ys h = sym (zero-add (first p ys))
+  first-right (x ∷ xs) ys h = go (λ k. first-right xs ys k) (p x) h
     where
       go : (length xs ≤ first p xs → first p (xs ++ ys) ≡ length xs + first p ys) → (z : Bool) → suc (length xs) ≤ cond z zero (suc (first p xs))
           → cond z zero (suc (first p (xs ++ ys))) ≡ suc (length xs) + first p ys
@@ -198,7 +197,7 @@ module _ (L : Layer) (s t : ℕ) where
     where
       go : (z : Bool) → vertexFor (cond z L new) t ≡ vertexFor L t
       go true = refl
-      go false = first-hit (λ x. eqb x t) (L .sets) (s ∷ []) (ltb-true (vertexFor L t) (length (L .sets)) e)
+      go false = first-left (λ x. eqb x t) (L .sets) (s ∷ []) (ltb-true (vertexFor L t) (length (L .sets)) e)
 
   -- s brings no other
   pub found-kept : s ≢ t → found (withVertex L s) t ≡ found L t
@@ -208,13 +207,13 @@ module _ (L : Layer) (s t : ℕ) where
       at : (z : Bool) → ltb (vertexFor L t) (length (L .sets)) ≡ z → ltb (vertexFor new t) (length (L .sets ++ (s ∷ []))) ≡ z
       at true e =
           let h : vertexFor L t < length (L .sets) = ltb-true (vertexFor L t) (length (L .sets)) e in
-          lt-ltb (vertexFor new t) (length (L .sets ++ (s ∷ []))) (omega (arith, first-hit (λ x. eqb x t) (L .sets) (s ∷ []) h, length-append (L .sets) (s ∷ [])))
+          lt-ltb (vertexFor new t) (length (L .sets ++ (s ∷ []))) (omega (arith, first-left (λ x. eqb x t) (L .sets) (s ∷ []) h, length-append (L .sets) (s ∷ [])))
       at false e =
           let h : length (L .sets) ≤ vertexFor L t = ltb-false (vertexFor L t) (length (L .sets)) e in
           le-ltb (vertexFor new t) (length (L .sets ++ (s ∷ [])))
           (omega (
             arith,
-            first-miss (λ x. eqb x t) (L .sets) (s ∷ []) h,
+            first-right (λ x. eqb x t) (L .sets) (s ∷ []) h,
             ap {B = ℕ} (λ (z : Bool). cond z 0 1) (ne-eqb s t n),
             length-append (L .sets) (s ∷ []),
           ))
@@ -241,7 +240,7 @@ module _ (L : Layer) (s : ℕ) where
   made false e =
       let h : length (L .sets) ≤ vertexFor L s = ltb-false (vertexFor L s) (length (L .sets)) e in
       let at : vertexFor (new L s s) s ≡ length (L .sets) =
-      first-miss (λ x. eqb x s) (L .sets) (s ∷ []) h ∙ ap (λ (z : Bool). length (L .sets) + cond z 0 1) (eq-eqb s s refl) ∙ add-zero (length (L .sets)) in
+      first-right (λ x. eqb x s) (L .sets) (s ∷ []) h ∙ ap (λ (z : Bool). length (L .sets) + cond z 0 1) (eq-eqb s s refl) ∙ add-zero (length (L .sets)) in
       rw e (
         lt-ltb (vertexFor (new L s s) s) (length (L .sets ++ (s ∷ []))) (omega (arith, at, length-append (L .sets) (s ∷ []))),
         omega (arith, at, first-le (λ x. eqb x s) (L .sets)),

@@ -1,17 +1,17 @@
 -- A group of resources with one list is locked with one vertex: the group of neighbours of a grant, from a sound book.
 -- Assumes nothing.
-use Prim.Native.Nat.{ℕ, zero, suc, _+_, _^_, _≤_, _<_}
+use Prim.Native.Nat.{ℕ, zero, suc, _+_, _<_}
 use mathlib.Core.Path.{_≡_, refl, sym, ap, ap₂, _∙_, subst}
-use mathlib.Core.Bool.{Bool, true, false, _&&_, _||_, not, cond, true≢false, false≢true, and-false}
+use mathlib.Core.Bool.{Bool, true, false, _&&_, cond, true≢false}
 use mathlib.Core.Logic.{_⊎_, inl, inr, _≢_}
-use mathlib.Core.List.{List, [], _∷_, _++_, map, List·Memᴰ, List·Memᴰ·head, List·Memᴰ·tail, List·Memᴰ·not-nil, append-assoc}
-use native.Mathlib.Nat.{le-refl, not-suc-le-zero}
+use mathlib.Core.List.{List, [], _∷_, _++_, map, List·Memᴰ, List·Memᴰ·head, List·Memᴰ·tail, append-assoc}
+use native.Mathlib.Nat.{le-refl}
 use native.Mathlib.Omega.{arith}
 use lib.Dec.{eqb}
-use lib.ListN.{length, getD, set, length-append, length-map}
+use lib.ListN.{length, length-append, length-map}
 use lib.Seq.{getD-set-other}
 use borrow.Author.Tests.{eqb-true, eqb-false, eq-eqb, ne-eqb, not-true}
-use Rattle.sets.specs.Sets.{has, within, inside, size, single, union}
+use Rattle.sets.specs.Sets.{has, within, inside, single, union}
 use Rattle.rules.specs.Lists.{keep, every, pairwise, tabulateFrom, tabulate, upTo}
 use Rattle.rules.specs.Layer.{Layer, token, setOf, cover, found, vertexFor, withVertex}
 use Rattle.rules.specs.declared.Token.{Token}
@@ -19,16 +19,15 @@ use Rattle.rules.specs.declared.Order.{Order}
 use Rattle.rules.specs.Book.{Book, Resource, none, resource, hasOuter, withOuter, withResources, withList, withLock}
 use Rattle.rules.specs.Holders.{holders, holdersOf}
 use Rattle.rules.specs.Sound.{held, locked, lockedFor, unequal, sound}
-use Rattle.rules.specs.Requests.{Done, done, order, _then_, vertexOrders, outerVertex, relock, lock, unlock, lockList, lockAll, agrees, settle, letIn, neighbours, grouped, grant}
+use Rattle.rules.specs.Requests.{Done, done, order, _then_, vertexOrders, outerVertex, relock, lock, lockList, lockAll, agrees, settle, letIn, neighbours, grouped, grant}
 use Rattle.sets.proofs.Laws.{both, has-within, within-has, same-within, has-union-right, has-union-cases, has-own, has-single, inside-within}
 use Rattle.rules.proofs.ListLaws.{every-mem, mem-every, keep-mem, upTo-mem, mem-upTo, length-tabulate}
 use Rattle.rules.proofs.LayerLaws.{set-old}
-use Rattle.rules.proofs.LockLaws.{Kept}
-use Rattle.rules.proofs.RevokeLaws.{AllLocked, open?, member}
-use Rattle.rules.proofs.GrantLaws.{Passed, lockAll-laws}
+use Rattle.rules.proofs.RevokeLaws.{AllLocked, member}
+use Rattle.rules.proofs.GrantLaws.{neighbour-in-order, neighbour-open, Passed, lockAll-laws}
 use Rattle.rules.proofs.SoundLaws.{sound-kept, sound-locked}
 use Rattle.rules.proofs.CountLaws.{newVertices, newTokens, vertexOrders-count, withVertex-vertices, withVertex-tokens, found-made, vertex-made, found-kept, cover-beside, withVertex-found, vertexOrders-found}
-use Rattle.rules.proofs.NeighbourLaws.{Started, grantedList, letInBook, length-keep-less, grouped-fewer, neighbour-in-order, neighbour-open, then-same, after-nothing, waits, waiters, Waits, waits-are, grant-starts, run-waiters, grant-plain, room-for-all}
+use Rattle.rules.proofs.NeighbourLaws.{Started, grantedList, letInBook, length-keep-less, grouped-fewer, then-same, after-nothing, waits, waiters, Waits, waits-are, not-waits, grant-starts, run-waiters, grant-plain, room-for-all}
 
 pub then-assoc : (d : Done) (f g : Book → Done) → (d then f) then g ≡ d then (λ b. f b then g)
 unfolding _then_
@@ -50,10 +49,15 @@ lockGroup (i ∷ is) s b = outerVertex s b then relockAll (i ∷ is) (vertexFor 
 abbrev pub Bare : ℕ → Book → List ℕ → Type 0
 Bare s c is = (i : ℕ) → List·Memᴰ i is → (resource c i .list ≡ s) × (hasOuter (resource c i) ≡ false)
 
+-- a resource that is not locked for s: the vertex is found or made, and the resource re-locked
+pub lock-loose : (i : ℕ) (c : Book) (s : ℕ) → lockedFor c (resource c i) s ≡ false → lock i s c ≡ outerVertex s c then relock i (vertexFor (c .outer) s)
+unfolding lock
+lock-loose i c s e = rw e
+
 pub lock-bare : (i : ℕ) (c : Book) (s : ℕ) → resource c i .list ≡ s → hasOuter (resource c i) ≡ false
     → lockList i c ≡ outerVertex s c then relock i (vertexFor (c .outer) s)
-unfolding lockList lock lockedFor
-lock-bare i c s e h = rw (h, e)
+unfolding lockList lockedFor
+lock-bare i c s e h = ap (λ (t : ℕ). lock i t c) e ∙ lock-loose i c s (rw h)
 
 pub outerVertex-found : (s : ℕ) (c : Book) → found (c .outer) s ≡ true → outerVertex s c ≡ done c []
 unfolding outerVertex done withOuter
@@ -195,17 +199,13 @@ module _ (b : Book) (r u : ℕ) where
 
   -- r itself does not wait
   pub waiters-fewer : r < length (b .resources) → length (waiters b r u) < length (b .resources)
-  unfolding waiters upTo waits
+  unfolding waiters upTo
   waiters-fewer l =
       omega (
         arith,
         length-tabulate (length (b .resources)) (λ (i : ℕ). i),
-        length-keep-less (waits b r u) (upTo (length (b .resources))) (mem-upTo (length (b .resources)) r l) (never (waits b r u r) refl),
+        length-keep-less (waits b r u) (upTo (length (b .resources))) (mem-upTo (length (b .resources)) r l) (not-waits (λ w. w .other refl)),
       )
-    where
-      never : (z : Bool) → waits b r u r ≡ z → z ≡ false
-      never true e = absurd (waits-are b r u r e .other refl)
-      never false e = refl
 
   pub waiters-bare : AllLocked b → (c : Book) → Started b c r u → Bare (holdersOf b r) c (waiters b r u)
   unfolding locked holdersOf
@@ -255,7 +255,7 @@ module _ (b : Book) (h : sound b ≡ true) (r u : ℕ) (l : r < length (b .resou
       (then-same (done (withList b r (grantedList r u b)) [] then letIn r u) (lockAll (waiters b r u)) (lockGroup (waiters b r u) (holdersOf b r)) run-group)
 
   pub locked-group : lockAll (grouped [] (neighbours r c)) c ≡ lockGroup (waiters b r u) (holdersOf b r) c
-  locked-group = run-waiters b c (sound-kept b h) (sound-locked b h) r u l s (room-for-all b h r u l un) ∙ run-group
+  locked-group = run-waiters b c (sound-locked b h) r u l s (room-for-all b h r u l un) ∙ run-group
 
   pub locked-book : lockedBook r u b ≡ lockGroup (waiters b r u) (holdersOf b r) c .book
   locked-book = ap (λ (d : Done). d .book) locked-group

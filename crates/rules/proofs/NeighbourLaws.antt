@@ -1,31 +1,31 @@
 -- The neighbours of a grant: from a sound book at most one group of them needs work, those whose list is the old holders; so the grouping is not seen, and
 -- the new vertex of that group is no part of the cover for the list of the resource itself.
 -- Assumes nothing.
-use Prim.Native.Nat.{ℕ, zero, suc, _+_, _^_, _≤_, _<_}
+use Prim.Native.Nat.{ℕ, suc, _+_, _≤_, _<_}
 use mathlib.Core.Path.{_≡_, refl, sym, ap, ap₂, _∙_, subst}
-use mathlib.Core.Bool.{Bool, true, false, _&&_, _||_, not, cond, true≢false, false≢true, and-false, or-true}
-use mathlib.Core.Logic.{_⊎_, inl, inr, _↔_, _≢_}
-use mathlib.Core.List.{List, [], _∷_, _++_, map, List·Memᴰ, List·Memᴰ·head, List·Memᴰ·tail, List·Memᴰ·not-nil, Memᴰ·cast, append-nil}
+use mathlib.Core.Bool.{Bool, true, false, _&&_, _||_, not, cond, true≢false}
+use mathlib.Core.Logic.{_⊎_, inl, inr, _≢_}
+use mathlib.Core.List.{List, [], _∷_, _++_, map, List·Memᴰ, List·Memᴰ·head, List·Memᴰ·tail, append-nil}
 use native.Mathlib.Nat.{le-refl, zero-add}
 use native.Mathlib.Omega.{arith}
 use native.Mathlib.Decide.{ℕ-discrete}
 use lib.Dec.{eqb}
-use lib.ListN.{length, getD, set, length-set, length-append, length-map}
-use borrow.Author.Tests.{eqb-true, eqb-false, eq-eqb, ne-eqb, not-true, not-false}
-use Rattle.sets.specs.Sets.{has, within, inside, size, single, union}
+use lib.ListN.{length, length-set, length-append, length-map}
+use borrow.Author.Tests.{eqb-true, eqb-false, eq-eqb, ne-eqb, not-true}
+use Rattle.sets.specs.Sets.{has, single, union}
 use Rattle.rules.specs.Lists.{keep, some, numbered, tabulateFrom, tabulate, upTo}
 use Rattle.rules.specs.Layer.{Layer, setOf, vertexFor}
-use Rattle.rules.specs.Book.{Book, Resource, none, resource, hasOuter, withInner, withOuter, withResources, withList, withLock}
+use Rattle.rules.specs.Book.{Book, Resource, none, resource, hasOuter, withInner, withResources, withList}
 use Rattle.rules.specs.Holders.{holders, holdersOf}
 use Rattle.rules.specs.Sound.{held, locked, lockedFor, sound}
-use Rattle.rules.specs.Requests.{Done, done, order, _then_, relock, lock, unlock, lockList, lockAll, agrees, settle, letIn, neighbours, grouped, grant}
-use Rattle.sets.proofs.Laws.{both, has-within, within-has, same-within, has-union, has-union-left, has-union-right, has-union-cases, has-own, has-single, inside-within}
-use Rattle.rules.proofs.ListLaws.{keep-mem, mem-keep, keep-append, keep-none, numbered-mem, mem-numbered}
+use Rattle.rules.specs.Requests.{Done, done, order, _then_, lock, lockList, lockAll, settle, letIn, neighbours, grouped, grant}
+use Rattle.sets.proofs.Laws.{both, within-has, has-union-right, has-own}
+use Rattle.rules.proofs.ListLaws.{keep-mem, keep-append, keep-none, numbered-mem, mem-numbered}
 use Rattle.rules.proofs.LayerLaws.{map-mem}
 use Rattle.rules.proofs.LetInLaws.{holds-only}
-use Rattle.rules.proofs.LockLaws.{Place, Kept, Relocked, lock-laws}
-use Rattle.rules.proofs.RevokeLaws.{AllLocked, open?, locked-by, member, locks-more}
-use Rattle.rules.proofs.GrantLaws.{LetIn, grouped-mem, open-same, relocked-lists, at-r, stage-kept, other-row, is-in, comes-in}
+use Rattle.rules.proofs.LockLaws.{Kept, Relocked, lock-laws}
+use Rattle.rules.proofs.RevokeLaws.{AllLocked, open?, member, locks-more}
+use Rattle.rules.proofs.GrantLaws.{Neighbour, neighbour-row, neighbour-open, neighbour-in-order, open-same, relocked-lists, at-r, stage-kept, other-row, is-in, comes-in}
 use Rattle.rules.proofs.SoundLaws.{sound-kept, sound-locked, sound-counts}
 
 -- ---- the book after the list has grown and the user is let in
@@ -103,43 +103,6 @@ module _ (b : Book) (k : Kept b) (a : AllLocked b) (r u : ℕ) (l : r < length (
             );
           }
 
--- ---- a neighbour
-
-pub record Neighbour (r : ℕ) (c : Book) (i : ℕ) : Type 0 where
-  pub there : i < length (c .resources)
-  pub other : i ≢ r
-  pub vertex : resource c i .inner ≡ resource c r .inner
-  pub differs : resource c i .list ≢ holdersOf c r
-
-pub neighbour-row : (r : ℕ) (c : Book) {x : ℕ × Resource} → List·Memᴰ x (neighbours r c) → Neighbour r c (x .0) × (x .1 ≡ resource c (x .0))
-unfolding neighbours resource
-neighbour-row r c {x} m =
-    let (o, p) = keep-mem (λ (x : ℕ × Resource). not (eqb (x .0) r) && eqb (x .1 .inner) (resource c r .inner) && not (eqb (x .1 .list) (holdersOf c r))) (numbered 0 (c .resources)) m in
-    let (j, h, q) = numbered-mem 0 (c .resources) (record { list = 0; inner = 0; outer = none }) o in
-    let (s, d) = both (not (eqb (x .0) r) && eqb (x .1 .inner) (resource c r .inner)) (not (eqb (x .1 .list) (holdersOf c r))) p in
-    let (n, w) = both (not (eqb (x .0) r)) (eqb (x .1 .inner) (resource c r .inner)) s in
-    let ij : x .0 ≡ j = ap (λ (x : ℕ × Resource). x .0) q ∙ zero-add j in
-    let e : x .1 ≡ resource c (x .0) = ap (λ (x : ℕ × Resource). x .1) q ∙ ap (resource c) (sym ij) in (
-      record {
-        there = omega arith;
-        other = eqb-false (x .0) r (not-true (eqb (x .0) r) n);
-        vertex = ap (λ (y : Resource). y .inner) (sym e) ∙ eqb-true (x .1 .inner) (resource c r .inner) w;
-        differs = λ z. eqb-false (x .1 .list) (holdersOf c r) (not-true (eqb (x .1 .list) (holdersOf c r)) d) (ap (λ (y : Resource). y .list) e ∙ z);
-      },
-      e,
-    )
-
-pub neighbour-open : (r : ℕ) (c : Book) (i : ℕ) → Neighbour r c i → open? c (resource c i) ≡ false
-unfolding open? holdersOf
-neighbour-open r c i n =
-    ap (λ (z : Bool). eqb (c .mode) 1 && z)
-    (ne-eqb (holders (c .inner) (resource c i .inner)) (resource c i .list) (λ e. n .differs (sym e ∙ ap (holders (c .inner)) (n .vertex))))
-    ∙ and-false (eqb (c .mode) 1)
-
-pub neighbour-in-order : (r : ℕ) (c : Book) {i : ℕ} → List·Memᴰ i (grouped [] (neighbours r c)) → Neighbour r c i
-neighbour-in-order r c {i} m =
-    let (x, n, e) = grouped-mem [] (neighbours r c) m in subst (Neighbour r c) (sym e) (neighbour-row r c n .0)
-
 -- ---- at most one group needs work
 
 -- a neighbour that is not locked for its list: delta mode, u was no holder, and the neighbour has the old holders for its list and no outer key
@@ -190,6 +153,23 @@ pub one-group : (b : Book) → sound b ≡ true → (r u : ℕ) → r < length (
 one-group b h r u l un i m =
     waiting b (letInBook r u b) (sound-locked b h) r u (started b (sound-kept b h) (sound-locked b h) r u l un) i
     (neighbour-in-order r (letInBook r u b) m)
+
+-- no list of another resource with that vertex is what the holders become: it would name u, who held nothing (S7)
+pub no-list-new : (b : Book) → sound b ≡ true → (r u : ℕ) → r < length (b .resources) → u < b .users → has (holdersOf b r) u ≡ false
+    → (i : ℕ) → i < length (b .resources) → resource b i .inner ≡ resource b r .inner → resource b i .list ≢ holdersOf (letInBook r u b) r
+unfolding holdersOf held
+no-list-new b h r u l un out i k v e = go (started b (sound-kept b h) (sound-locked b h) r u l un .grew)
+  where
+    go : ((has (holdersOf b r) u ≡ true) × (holdersOf (letInBook r u b) r ≡ holdersOf b r))
+        ⊎ ((has (holdersOf b r) u ≡ false) × (holdersOf (letInBook r u b) r ≡ union (holdersOf b r) (single u))) → ⊥
+    go (inl (p, q)) = true≢false (sym p ∙ out)
+    go (inr (p, q)) =
+        let named : has (resource b i .list) u ≡ true =
+        ap (λ (x : ℕ). has x u) (e ∙ q) ∙ has-union-right (holdersOf b r) (single u) u (has-own u) in
+        true≢false
+        (sym (within-has (resource b i .list) (holders (b .inner) (resource b i .inner)) u (sound-kept b h .holds (resource b i) (member b i k)) named)
+        ∙ ap (λ (w : ℕ). has (holders (b .inner) w) u) v
+        ∙ out)
 
 -- ---- the order of a run of locks, where all that need work have one list
 
@@ -477,12 +457,29 @@ are-waits b r u i w =
       eq-eqb (resource b i .list) (holdersOf b r) (w .list),
     )
 
+pub not-waits : {b : Book} {r u i : ℕ} → (Waits b r u i → ⊥) → waits b r u i ≡ false
+not-waits {b} {r} {u} {i} n = go (waits b r u i) refl
+  where
+    go : (z : Bool) → waits b r u i ≡ z → waits b r u i ≡ false
+    go true e = absurd (n (waits-are b r u i e))
+    go false e = e
+
+-- nobody waits where no token is added, nor in full mode
+pub none-waits : (b : Book) (r u : ℕ) → has (holdersOf b r) u ≡ true → waiters b r u ≡ []
+unfolding waiters
+none-waits b r u h =
+    keep-none (waits b r u) (upTo (length (b .resources))) (λ i m. not-waits (λ w. true≢false (sym h ∙ w .outside)))
+
+pub none-waits-full : (b : Book) (r u : ℕ) → b .mode ≢ 1 → waiters b r u ≡ []
+unfolding waiters
+none-waits-full b r u n = keep-none (waits b r u) (upTo (length (b .resources))) (λ i m. not-waits (λ w. n (w .delta)))
+
 pub numbers-numbered : {A : Type 0} (n : ℕ) (xs : List A) → map (λ x. x .0) (numbered n xs) ≡ tabulateFrom n (length xs) (λ i. i)
 unfolding numbered tabulateFrom
 numbers-numbered n [] = refl
 numbers-numbered n (x ∷ xs) = ap (λ (l : List ℕ). n ∷ l) (numbers-numbered (suc n) xs)
 
-module _ (b c : Book) (k : Kept b) (a : AllLocked b) (r u : ℕ) (l : r < length (b .resources)) (s : Started b c r u)
+module _ (b c : Book) (a : AllLocked b) (r u : ℕ) (l : r < length (b .resources)) (s : Started b c r u)
     (room : length (b .outer .sets) + length (b .resources) < none) where
   -- a neighbour that does not wait is locked
   passed-over : (i : ℕ) → Neighbour r c i → waits b r u i ≡ false → locked c (resource c i) ≡ true
@@ -584,7 +581,7 @@ module _ (b : Book) (h : sound b ≡ true) (r u : ℕ) (l : r < length (b .resou
 
   -- "grouped by equal list, groups by lowest resource number" is not seen: plain ascending order gives the same book and orders
   pub grouped-plain : lockAll (grouped [] (neighbours r (letInBook r u b))) (letInBook r u b) ≡ lockAll (numbers (neighbours r (letInBook r u b))) (letInBook r u b)
-  grouped-plain = run-plain b (letInBook r u b) (sound-kept b h) (sound-locked b h) r u l grant-starts room-for-all
+  grouped-plain = run-plain b (letInBook r u b) (sound-locked b h) r u l grant-starts room-for-all
 
   -- a grant, with those alone that wait, in ascending order
   pub grant-plain : grant r u b ≡ done (withList b r (grantedList r u b)) [] then letIn r u then lockAll (waiters b r u) then settle r
@@ -592,4 +589,4 @@ module _ (b : Book) (h : sound b ≡ true) (r u : ℕ) (l : r < length (b .resou
   grant-plain =
       ap (λ (d : Done). d then settle r)
       (then-same (done (withList b r (grantedList r u b)) [] then letIn r u) (λ c. lockAll (grouped [] (neighbours r c)) c) (lockAll (waiters b r u))
-      (run-waiters b (letInBook r u b) (sound-kept b h) (sound-locked b h) r u l grant-starts room-for-all))
+      (run-waiters b (letInBook r u b) (sound-locked b h) r u l grant-starts room-for-all))

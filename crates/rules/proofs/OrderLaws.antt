@@ -1,20 +1,20 @@
 -- How many vertices and orders an accepted request can give: an order list of 385 rows is long enough for every one.
 -- Assumes nothing.
-use Prim.Native.Nat.{ℕ, zero, suc, _+_, _^_, _≤_, _<_}
-use mathlib.Core.Path.{_≡_, refl, sym, ap, ap₂, _∙_, subst}
-use mathlib.Core.Bool.{Bool, true, false, _&&_, _||_, not, cond, true≢false, false≢true}
-use mathlib.Core.Logic.{_⊎_, inl, inr, _≢_}
-use mathlib.Core.List.{List, [], _∷_, _++_, List·Memᴰ, List·Memᴰ·head}
-use mathlib.Core.Option.{Option, some, Option·none-ne-some}
+use Prim.Native.Nat.{ℕ, _+_, _^_, _≤_, _<_}
+use mathlib.Core.Path.{_≡_, refl, sym, ap, _∙_, subst}
+use mathlib.Core.Bool.{Bool, true, false, _&&_, not, cond}
+use mathlib.Core.Logic.{_⊎_, inl, inr}
+use mathlib.Core.List.{List, [], _∷_, List·Memᴰ, List·Memᴰ·head}
+use mathlib.Core.Option.{some, Option·none-ne-some}
 use mathlib.Core.Option as option
-use native.Mathlib.Nat.{le-refl, lt-of-le-of-lt}
+use native.Mathlib.Nat.{lt-of-le-of-lt}
 use native.Mathlib.Omega.{arith}
 use lib.Bits.{or-lt}
 use lib.Dec.{eqb, ltb, leb}
 use lib.ListN.{length, getD, length-append}
 use lib.Pow.{pow-lt}
-use borrow.Author.Tests.{eqb-true, eqb-false, eq-eqb, ne-eqb, ltb-true, not-true, not-false}
-use Rattle.sets.specs.Sets.{has, within, inside, size, minus, single, union}
+use borrow.Author.Tests.{eqb-false, eq-eqb, ne-eqb, ltb-true, not-false}
+use Rattle.sets.specs.Sets.{has, within, inside, size, single, union}
 use Rattle.rules.specs.Layer.{Layer, setOf, withVertex}
 use Rattle.rules.specs.Book.{Book, Resource, none, resource, hasOuter}
 use Rattle.rules.specs.Holders.{holders, holdersOf}
@@ -36,7 +36,7 @@ use Rattle.rules.proofs.SoundLaws.{sound-kept, sound-locked, sound-coun
 use Rattle.rules.proofs.CountLaws.{size-below, size-lacking, newVertices, newTokens, newVertices-one, newTokens-size, withVertex-vertices}
 use Rattle.rules.proofs.NeighbourLaws.{grantedList, waiters, Waits}
 use Rattle.rules.proofs.GroupLaws.{ifAny, waiters-mem, waiters-fewer}
-use Rattle.rules.proofs.PlanLaws.{agreed, insertAgrees, revokedList, revoked, grant-vertices, grant-orders, revoke-outer, revoke-inner, revoke-orders, insert-inner, insert-outer, insert-orders}
+use Rattle.rules.proofs.PlanLaws.{agreed, insertAgrees, revokedList, revoked, grant-vertices, grant-orders, revoke-outer, revoke-orders, insert-inner, insert-outer, insert-orders}
 
 pub join-rows : (b : Book) → length (join b .orders) ≡ 2
 unfolding join done

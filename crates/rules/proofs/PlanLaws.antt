@@ -1,21 +1,19 @@
 -- What a request from a sound book will leave, counted on the tables as they are: the vertices, tokens and orders that it adds.
 -- Assumes nothing.
-use Prim.Native.Nat.{ℕ, zero, suc, _+_, _^_, _≤_, _<_}
-use mathlib.Core.Path.{_≡_, refl, sym, ap, ap₂, _∙_, subst}
-use mathlib.Core.Bool.{Bool, true, false, _&&_, _||_, not, cond, true≢false, false≢true, and-false}
+use Prim.Native.Nat.{ℕ, _+_, _^_, _≤_, _<_}
+use mathlib.Core.Path.{_≡_, refl, sym, ap, ap₂, _∙_}
+use mathlib.Core.Bool.{Bool, true, false, _&&_, _||_, not, cond, true≢false, and-false}
 use mathlib.Core.Logic.{_⊎_, inl, inr, _≢_}
-use mathlib.Core.List.{List, [], _∷_, _++_, map, List·Memᴰ, List·Memᴰ·head, List·Memᴰ·tail}
-use native.Mathlib.Nat.{le-refl, add-zero}
+use mathlib.Core.List.{List, [], _∷_, _++_}
 use native.Mathlib.Omega.{arith}
 use lib.Bits.{or-zero-r}
 use lib.Dec.{eqb}
-use lib.ListN.{length, getD, set, length-append, length-map}
+use lib.ListN.{length, length-append}
 use lib.Seq.{getD-set-same, getD-append-seam}
-use borrow.Author.Tests.{eqb-true, eqb-false, eq-eqb, ne-eqb, not-true, not-false, ltb-false}
+use borrow.Author.Tests.{eqb-true, eq-eqb, ne-eqb, ltb-false}
 use Rattle.sets.specs.Sets.{has, minus, single, union}
-use Rattle.rules.specs.Layer.{Layer, token, setOf, cover, found, vertexFor, withVertex}
+use Rattle.rules.specs.Layer.{Layer, token, setOf, found, vertexFor, withVertex}
 use Rattle.rules.specs.declared.Token.{Token}
-use Rattle.rules.specs.declared.Order.{Order}
 use Rattle.rules.specs.Book.{Book, Resource, none, resource, hasOuter, withInner, withOuter, withResources, withList, withLock}
 use Rattle.rules.specs.Holders.{into, sources, byToken, holders, holdersOf}
 use Rattle.rules.specs.Sound.{locked, lockedFor, sound}
@@ -24,13 +22,13 @@ use Rattle.sets.proofs.Laws.{has-within, same-within, has-minus, has-union-left
 use Rattle.rules.proofs.ListLaws.{keep-none}
 use Rattle.rules.proofs.LayerLaws.{Layered}
 use Rattle.rules.proofs.VertexLaws.{Grown, grown}
-use Rattle.rules.proofs.LockLaws.{Place, Kept}
-use Rattle.rules.proofs.RevokeLaws.{AllLocked, member}
+use Rattle.rules.proofs.LockLaws.{Place}
+use Rattle.rules.proofs.RevokeLaws.{member}
 use Rattle.rules.proofs.OpensLaws.{locked-cases}
 use Rattle.rules.proofs.SoundLaws.{sound-kept, sound-locked}
 use Rattle.rules.proofs.CountLaws.{newVertices, newTokens, vertexOrders-count, withVertex-vertices, withVertex-tokens, withVertex-found}
 use Rattle.rules.proofs.NeighbourLaws.{Started, grantedList, letInBook, waiters, grant-starts}
-use Rattle.rules.proofs.GroupLaws.{lockGroup, ifAny, group-orders, group-count, group-vertices, group-tokens, locked-group, group-outer, group-others, waiters-mem, lockedBook, withVertex-set, grant-group, locked-book, run-passed, settled-before, locked-outer, second-cover, second-found}
+use Rattle.rules.proofs.GroupLaws.{lock-loose, ifAny, group-count, group-vertices, group-tokens, locked-group, group-others, waiters-mem, lockedBook, withVertex-set, locked-book, run-passed, settled-before, locked-outer, second-cover, second-found}
 
 -- ---- a list that has just changed is never locked for already
 
@@ -45,11 +43,6 @@ new-list-loose b x s h n = go (locked-cases b x h)
     go (inr (m, q)) =
         ap (λ (z : Bool). not (eqb (x .outer) none) && z) (ne-eqb (setOf (b .outer) (x .outer)) s (λ e. n (sym e ∙ q)))
         ∙ and-false (not (eqb (x .outer) none))
-
--- so the lock finds or makes the vertex, and re-locks
-pub lock-loose : (i : ℕ) (c : Book) (s : ℕ) → lockedFor c (resource c i) s ≡ false → lock i s c ≡ outerVertex s c then relock i (vertexFor (c .outer) s)
-unfolding lock
-lock-loose i c s e = rw e
 
 pub union-has : (s u : ℕ) → has s u ≡ true → union s (single u) ≡ s
 union-has s u h =
