@@ -27,7 +27,7 @@ use Rattle.rules.proofs.RevokeLaws.{AllLocked, member}
 use Rattle.rules.proofs.GrantLaws.{neighbour-in-order, neighbour-open, Passed, lockAll-laws}
 use Rattle.rules.proofs.SoundLaws.{sound-kept, sound-locked}
 use Rattle.rules.proofs.CountLaws.{newVertices, newTokens, vertexOrders-count, withVertex-vertices, withVertex-tokens, found-made, vertex-made, found-kept, cover-beside, withVertex-found, vertexOrders-found}
-use Rattle.rules.proofs.NeighbourLaws.{Started, grantedList, letInBook, length-keep-less, grouped-fewer, then-same, after-nothing, waits, waiters, Waits, waits-are, not-waits, grant-starts, run-waiters, grant-plain, room-for-all}
+use Rattle.rules.proofs.NeighbourLaws.{Grew, Started, grantedList, letInBook, length-keep-less, grouped-fewer, then-same, after-nothing, waits, waiters, Waits, waits-are, not-waits, grant-starts, run-waiters, grant-plain, room-for-all}
 
 pub then-assoc : (d : Done) (f g : Book → Done) → (d then f) then g ≡ d then (λ b. f b then g)
 unfolding _then_
@@ -225,6 +225,12 @@ module _ (b : Book) (r u : ℕ) where
 abbrev pub lockedBook : ℕ → ℕ → Book → Book
 lockedBook r u b = lockAll (grouped [] (neighbours r (letInBook r u b))) (letInBook r u b) .book
 
+-- its outer layer: as it was, or with the vertex for the old holders, in delta mode where u came in
+abbrev pub OuterThen : ℕ → ℕ → Book → Type 0
+OuterThen r u b =
+    (lockedBook r u b .outer ≡ b .outer)
+    ⊎ ((lockedBook r u b .outer ≡ withVertex (b .outer) (holdersOf b r)) × (b .mode ≡ 1) × (has (holdersOf b r) u ≡ false))
+
 pub withVertex-set : (L : Layer) (s v : ℕ) → v < length (L .sets) → setOf (withVertex L s) v ≡ setOf L v
 unfolding withVertex
 withVertex-set L s v h = go (found L s)
@@ -273,15 +279,12 @@ module _ (b : Book) (h : sound b ≡ true) (r u : ℕ) (l : r < length (b .resou
       ap₂ (λ (x y : Bool). x && y) (ap (λ (m : ℕ). eqb m 1) (p .mode ∙ s .mode))
       (ap₂ eqb (ap₂ holders (p .inner) (p .vertices r)) (p .lists r ∙ ap (λ (x : Resource). x .list) (s .row)))
 
-  -- the outer layer then: as it was, or with the vertex for the old holders
-  pub locked-outer : (lockedBook r u b .outer ≡ b .outer)
-      ⊎ ((lockedBook r u b .outer ≡ withVertex (b .outer) (holdersOf b r)) × (b .mode ≡ 1) × (has (holdersOf b r) u ≡ false))
+  pub locked-outer : OuterThen r u b
   unfolding lockGroup done
   locked-outer = go (waiters b r u) refl
     where
       go : (is : List ℕ) → waiters b r u ≡ is
-          → (lockedBook r u b .outer ≡ b .outer)
-          ⊎ ((lockedBook r u b .outer ≡ withVertex (b .outer) (holdersOf b r)) × (b .mode ≡ 1) × (has (holdersOf b r) u ≡ false))
+          → OuterThen r u b
       go [] e = inl (ap (λ (x : Book). x .outer) locked-book ∙ ap (λ (is : List ℕ). lockGroup is (holdersOf b r) c .book .outer) e ∙ s .outer)
       go (i ∷ is) e =
           let (k, w) = waiters-mem b r u (subst (λ (js : List ℕ). List·Memᴰ i js) (sym e) (List·Memᴰ·head refl)) in
@@ -319,8 +322,7 @@ module _ (b : Book) (h : sound b ≡ true) (r u : ℕ) (l : r < length (b .resou
           (sound-kept b h .holds (resource b r) (member b r l))
 
       then-agree : H ≡ resource b r .list
-          → ((has (holdersOf b r) u ≡ true) × (holdersOf c r ≡ holdersOf b r))
-          ⊎ ((has (holdersOf b r) u ≡ false) × (holdersOf c r ≡ union (holdersOf b r) (single u))) → ⊥
+          → Grew b c r u → ⊥
       then-agree e (inl (p, q)) = true≢false (sym p ∙ out)
       then-agree e (inr (p, q)) = eqb-false (holdersOf c r) (grantedList r u b) differ (q ∙ ap (λ (x : ℕ). union x (single u)) e)
 
@@ -333,8 +335,7 @@ module _ (b : Book) (h : sound b ≡ true) (r u : ℕ) (l : r < length (b .resou
       → cover (lockedBook r u b .outer) (grantedList r u b) ≡ cover (b .outer) (grantedList r u b)
   second-cover e = go locked-outer
     where
-      go : (lockedBook r u b .outer ≡ b .outer)
-          ⊎ ((lockedBook r u b .outer ≡ withVertex (b .outer) (holdersOf b r)) × (b .mode ≡ 1) × (has (holdersOf b r) u ≡ false))
+      go : OuterThen r u b
           → cover (lockedBook r u b .outer) (grantedList r u b) ≡ cover (b .outer) (grantedList r u b)
       go (inl q) = ap (λ (L : Layer). cover L (grantedList r u b)) q
       go (inr (q, m, out)) =
@@ -346,8 +347,7 @@ module _ (b : Book) (h : sound b ≡ true) (r u : ℕ) (l : r < length (b .resou
   pub second-found : found (lockedBook r u b .outer) (grantedList r u b) ≡ found (b .outer) (grantedList r u b)
   second-found = go locked-outer
     where
-      go : (lockedBook r u b .outer ≡ b .outer)
-          ⊎ ((lockedBook r u b .outer ≡ withVertex (b .outer) (holdersOf b r)) × (b .mode ≡ 1) × (has (holdersOf b r) u ≡ false))
+      go : OuterThen r u b
           → found (lockedBook r u b .outer) (grantedList r u b) ≡ found (b .outer) (grantedList r u b)
       go (inl q) = ap (λ (L : Layer). found L (grantedList r u b)) q
       go (inr (q, m, out)) =

@@ -1,5 +1,4 @@
--- The neighbours of a grant: from a sound book at most one group of them needs work, those whose list is the old holders; so the grouping is not seen, and
--- the new vertex of that group is no part of the cover for the list of the resource itself.
+-- The neighbours of a grant: from a sound book at most one group of them needs work, those whose list is the old holders; so the grouping is not seen.
 -- Assumes nothing.
 use Prim.Native.Nat.{ℕ, suc, _+_, _≤_, _<_}
 use mathlib.Core.Path.{_≡_, refl, sym, ap, ap₂, _∙_, subst}
@@ -37,6 +36,12 @@ grantedList r u b = union (resource b r .list) (single u)
 abbrev pub letInBook : ℕ → ℕ → Book → Book
 letInBook r u b = letIn r u (withList b r (grantedList r u b)) .book
 
+-- u was a holder, and the holders stayed; or u was none, and came in
+abbrev pub Grew : Book → Book → ℕ → ℕ → Type 0
+Grew b c r u =
+    ((has (holdersOf b r) u ≡ true) × (holdersOf c r ≡ holdersOf b r))
+    ⊎ ((has (holdersOf b r) u ≡ false) × (holdersOf c r ≡ union (holdersOf b r) (single u)))
+
 -- c is b with u on the list of r and among its holders, and nothing else changed
 pub record Started (b c : Book) (r u : ℕ) : Type 0 where
   pub kept : Kept c
@@ -46,8 +51,7 @@ pub record Started (b c : Book) (r u : ℕ) : Type 0 where
   pub count : length (c .resources) ≡ length (b .resources)
   pub row : resource c r ≡ record { list = grantedList r u b; inner = resource b r .inner; outer = resource b r .outer }
   pub others : (i : ℕ) → i ≢ r → resource c i ≡ resource b i
-  pub grew : ((has (holdersOf b r) u ≡ true) × (holdersOf c r ≡ holdersOf b r))
-      ⊎ ((has (holdersOf b r) u ≡ false) × (holdersOf c r ≡ union (holdersOf b r) (single u)))
+  pub grew : Grew b c r u
 
 module _ (b : Book) (k : Kept b) (a : AllLocked b) (r u : ℕ) (l : r < length (b .resources)) (un : u < b .users) where
   abbrev b1 : Book
@@ -139,8 +143,7 @@ module _ (b c : Book) (a : AllLocked b) (r u : ℕ) (s : Started b c r u) where
       record { delta = d; outside = out (ap (λ (x : Resource). x .list) same ∙ list) (s .grew); bare = f; list = list }
     where
       out : resource c i .list ≡ holdersOf b r
-          → ((has (holdersOf b r) u ≡ true) × (holdersOf c r ≡ holdersOf b r))
-          ⊎ ((has (holdersOf b r) u ≡ false) × (holdersOf c r ≡ union (holdersOf b r) (single u)))
+          → Grew b c r u
           → has (holdersOf b r) u ≡ false
       out e (inl (p, q)) = absurd (n .differs (e ∙ sym q))
       out e (inr (p, q)) = p
@@ -160,8 +163,7 @@ pub no-list-new : (b : Book) → sound b ≡ true → (r u : ℕ) → r < length
 unfolding holdersOf held
 no-list-new b h r u l un out i k v e = go (started b (sound-kept b h) (sound-locked b h) r u l un .grew)
   where
-    go : ((has (holdersOf b r) u ≡ true) × (holdersOf (letInBook r u b) r ≡ holdersOf b r))
-        ⊎ ((has (holdersOf b r) u ≡ false) × (holdersOf (letInBook r u b) r ≡ union (holdersOf b r) (single u))) → ⊥
+    go : Grew b (letInBook r u b) r u → ⊥
     go (inl (p, q)) = true≢false (sym p ∙ out)
     go (inr (p, q)) =
         let named : has (resource b i .list) u ≡ true =
@@ -504,8 +506,7 @@ module _ (b c : Book) (a : AllLocked b) (r u : ℕ) (l : r < length (b .resource
   waits-differs : (i : ℕ) → Waits b r u i → resource c i .list ≢ holdersOf c r
   waits-differs i w e = go (s .grew)
     where
-      go : ((has (holdersOf b r) u ≡ true) × (holdersOf c r ≡ holdersOf b r))
-          ⊎ ((has (holdersOf b r) u ≡ false) × (holdersOf c r ≡ union (holdersOf b r) (single u))) → ⊥
+      go : Grew b c r u → ⊥
       go (inl (p, q)) = true≢false (sym p ∙ w .outside)
       go (inr (p, q)) =
           true≢false

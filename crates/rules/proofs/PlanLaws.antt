@@ -27,8 +27,8 @@ use Rattle.rules.proofs.RevokeLaws.{member}
 use Rattle.rules.proofs.OpensLaws.{locked-cases}
 use Rattle.rules.proofs.SoundLaws.{sound-kept, sound-locked}
 use Rattle.rules.proofs.CountLaws.{newVertices, newTokens, vertexOrders-count, withVertex-vertices, withVertex-tokens, withVertex-found}
-use Rattle.rules.proofs.NeighbourLaws.{Started, grantedList, letInBook, waiters, grant-starts}
-use Rattle.rules.proofs.GroupLaws.{lock-loose, ifAny, group-count, group-vertices, group-tokens, locked-group, group-others, waiters-mem, lockedBook, withVertex-set, locked-book, run-passed, settled-before, locked-outer, second-cover, second-found}
+use Rattle.rules.proofs.NeighbourLaws.{Grew, Started, grantedList, letInBook, waiters, grant-starts}
+use Rattle.rules.proofs.GroupLaws.{lock-loose, ifAny, group-count, group-vertices, group-tokens, locked-group, group-others, waiters-mem, lockedBook, OuterThen, withVertex-set, locked-book, run-passed, settled-before, locked-outer, second-cover, second-found}
 
 -- ---- a list that has just changed is never locked for already
 
@@ -236,7 +236,7 @@ module _ (b : Book) (h : sound b ≡ true) (r u : ℕ) (l : r < length (b .resou
   old-set : (w : ℕ) → w < length (b .outer .sets) → setOf (d .outer) w ≡ setOf (b .outer) w
   old-set w k = go (locked-outer b h r u l un)
     where
-      go : (d .outer ≡ b .outer) ⊎ ((d .outer ≡ withVertex (b .outer) (holdersOf b r)) × (b .mode ≡ 1) × (has (holdersOf b r) u ≡ false)) → setOf (d .outer) w ≡ setOf (b .outer) w
+      go : OuterThen r u b → setOf (d .outer) w ≡ setOf (b .outer) w
       go (inl e) = ap (λ (L : Layer). setOf L w) e
       go (inr (e, m, o)) = ap (λ (L : Layer). setOf L w) e ∙ withVertex-set (b .outer) (holdersOf b r) w k
 
@@ -271,8 +271,7 @@ module _ (b : Book) (h : sound b ≡ true) (r u : ℕ) (l : r < length (b .resou
   pub granted-holders : holdersOf c r ≡ union (holdersOf b r) (single u)
   granted-holders = go (s .grew)
     where
-      go : ((has (holdersOf b r) u ≡ true) × (holdersOf c r ≡ holdersOf b r))
-          ⊎ ((has (holdersOf b r) u ≡ false) × (holdersOf c r ≡ union (holdersOf b r) (single u))) → holdersOf c r ≡ union (holdersOf b r) (single u)
+      go : Grew b c r u → holdersOf c r ≡ union (holdersOf b r) (single u)
       go (inl (p, q)) = q ∙ sym (union-has (holdersOf b r) u p)
       go (inr (p, q)) = q
 
