@@ -1,7 +1,7 @@
 -- What a request from a sound book will leave, counted on the tables as they are: the vertices, tokens and orders that it adds.
 -- Assumes nothing.
 use Prim.Native.Nat.{ℕ, _+_, _^_, _≤_, _<_}
-use mathlib.Core.Path.{_≡_, refl, sym, ap, ap₂, _∙_}
+use mathlib.Core.Path.{_≡_, refl, sym, ap, ap₂, _∙_, subst}
 use mathlib.Core.Bool.{Bool, true, false, _&&_, _||_, not, cond, true≢false, and-false}
 use mathlib.Core.Logic.{_⊎_, inl, inr, _≢_}
 use mathlib.Core.List.{List, [], _∷_, _++_}
@@ -27,8 +27,8 @@ use Rattle.rules.proofs.RevokeLaws.{member}
 use Rattle.rules.proofs.OpensLaws.{locked-cases}
 use Rattle.rules.proofs.SoundLaws.{sound-kept, sound-locked}
 use Rattle.rules.proofs.CountLaws.{newVertices, newTokens, vertexOrders-count, withVertex-vertices, withVertex-tokens, withVertex-found}
-use Rattle.rules.proofs.NeighbourLaws.{Grew, Started, grantedList, letInBook, waiters, grant-starts}
-use Rattle.rules.proofs.GroupLaws.{lock-loose, ifAny, group-count, group-vertices, group-tokens, locked-group, group-others, waiters-mem, lockedBook, OuterThen, withVertex-set, locked-book, run-passed, settled-before, locked-outer, second-cover, second-found}
+use Rattle.rules.proofs.NeighbourLaws.{Grew, Started, grantedList, letInBook, then-same, waiters, grant-starts}
+use Rattle.rules.proofs.GroupLaws.{lock-loose, lockGroup, grant-group, ifAny, group-count, group-vertices, group-tokens, locked-group, group-others, waiters-mem, lockedBook, OuterThen, withVertex-set, locked-book, run-passed, settled-before, locked-outer, second-cover, second-found}
 
 -- ---- a list that has just changed is never locked for already
 
@@ -216,6 +216,12 @@ holders-listed b r s l = ap (λ (x : Resource). holders (b .inner) (x .inner)) (
 unfoldable pub agreed : ℕ → ℕ → Book → Bool
 agreed r u b = eqb (b .mode) 1 && eqb (union (holdersOf b r) (single u)) (grantedList r u b)
 
+-- what becomes of r itself, in a book e where the list, the token and the neighbours are done
+unfoldable pub settleRow : ℕ → ℕ → Book → Book → Done
+settleRow r u b e =
+    cond (agreed r u b) (cond (hasOuter (resource b r)) (relock r none e) (done e []))
+    (outerVertex (grantedList r u b) e then relock r (vertexFor (e .outer) (grantedList r u b)))
+
 module _ (b : Book) (h : sound b ≡ true) (r u : ℕ) (l : r < length (b .resources)) (un : u < b .users) where
   abbrev c : Book
   c = letInBook r u b
@@ -254,19 +260,6 @@ module _ (b : Book) (h : sound b ≡ true) (r u : ℕ) (l : r < length (b .resou
       ∙ new-list-loose b (resource b r) (grantedList r u b) (sound-locked b h r l) (λ e.
       true≢false (sym (has-union-right (resource b r .list) (single u) u (has-own u)) ∙ ap (λ (x : ℕ). has x u) e ∙ out))
 
-  -- the last step of a grant
-  pub settle-plan : has (resource b r .list) u ≡ false
-      → settle r d
-      ≡ cond (eqb (b .mode) 1 && eqb (holdersOf c r) (grantedList r u b)) (cond (hasOuter (resource b r)) (relock r none d) (done d []))
-      (outerVertex (grantedList r u b) d then relock r (vertexFor (d .outer) (grantedList r u b)))
-  unfolding settle unlock lockList hasOuter
-  settle-plan out =
-      ap₂ (λ (x : Bool × Bool) (e : Done). cond (x .0) (cond (x .1) (relock r none d) (done d [])) e)
-      (ap₂ (λ (x y : Bool). (x, y)) (settled-before b h r u l un) (ap hasOuter locked-row))
-      (ap (λ (x : Resource). lock r (x .list) d) locked-row ∙ lock-loose r d (grantedList r u b) (own-lock out))
-
-  -- ---- counted on the tables as they are
-
   -- the holders afterwards
   pub granted-holders : holdersOf c r ≡ union (holdersOf b r) (single u)
   granted-holders = go (s .grew)
@@ -278,6 +271,25 @@ module _ (b : Book) (h : sound b ≡ true) (r u : ℕ) (l : r < length (b .resou
   agreed-are : (eqb (b .mode) 1 && eqb (holdersOf c r) (grantedList r u b)) ≡ agreed r u b
   unfolding agreed
   agreed-are = ap (λ (x : ℕ). eqb (b .mode) 1 && eqb x (grantedList r u b)) granted-holders
+
+  -- the last step of a grant
+  pub settle-plan : has (resource b r .list) u ≡ false → settle r d ≡ settleRow r u b d
+  unfolding settle unlock lockList hasOuter settleRow
+  settle-plan out =
+      ap₂ (λ (x : Bool × Bool) (e : Done). cond (x .0) (cond (x .1) (relock r none d) (done d [])) e)
+      (ap₂ (λ (x y : Bool). (x, y)) (settled-before b h r u l un ∙ agreed-are) (ap hasOuter locked-row))
+      (ap (λ (x : Resource). lock r (x .list) d) locked-row ∙ lock-loose r d (grantedList r u b) (own-lock out))
+
+  -- a grant, where every choice is made on the book as it is
+  pub grant-plan : has (resource b r .list) u ≡ false
+      → grant r u b ≡ done (withList b r (grantedList r u b)) [] then letIn r u then lockGroup (waiters b r u) (holdersOf b r) then settleRow r u b
+  unfolding _then_ done
+  grant-plan out =
+      grant-group b h r u l un
+      ∙ then-same (done (withList b r (grantedList r u b)) [] then letIn r u then lockGroup (waiters b r u) (holdersOf b r)) (settle r) (settleRow r u b)
+      (subst (λ (e : Book). settle r e ≡ settleRow r u b e) (locked-book b h r u l un) (settle-plan out))
+
+  -- ---- counted on the tables as they are
 
   second-vertices : newVertices (d .outer) (grantedList r u b) ≡ newVertices (b .outer) (grantedList r u b)
   unfolding newVertices
@@ -291,15 +303,15 @@ module _ (b : Book) (h : sound b ≡ true) (r u : ℕ) (l : r < length (b .resou
 
   -- the outer layer after a grant
   pub grant-outer : has (resource b r .list) u ≡ false → grant r u b .book .outer ≡ cond (agreed r u b) (d .outer) (withVertex (d .outer) (grantedList r u b))
-  unfolding grant _then_ done relock outerVertex withLock withResources withOuter
-  grant-outer out = ap (λ (e : Done). e .book .outer) (settle-plan out) ∙ go (eqb (b .mode) 1 && eqb (holdersOf c r) (grantedList r u b)) (hasOuter (resource b r)) agreed-are
+  unfolding grant _then_ done relock outerVertex withLock withResources withOuter settleRow
+  grant-outer out = ap (λ (e : Done). e .book .outer) (settle-plan out) ∙ go (agreed r u b) (hasOuter (resource b r))
     where
-      go : (z w : Bool) → z ≡ agreed r u b
+      go : (z w : Bool)
           → cond z (cond w (relock r none d) (done d [])) (outerVertex (grantedList r u b) d then relock r (vertexFor (d .outer) (grantedList r u b))) .book .outer
-          ≡ cond (agreed r u b) (d .outer) (withVertex (d .outer) (grantedList r u b))
-      go true true e = ap (λ (x : Bool). cond x (d .outer) (withVertex (d .outer) (grantedList r u b))) e
-      go true false e = ap (λ (x : Bool). cond x (d .outer) (withVertex (d .outer) (grantedList r u b))) e
-      go false w e = ap (λ (x : Bool). cond x (d .outer) (withVertex (d .outer) (grantedList r u b))) e
+          ≡ cond z (d .outer) (withVertex (d .outer) (grantedList r u b))
+      go true true = refl
+      go true false = refl
+      go false w = refl
 
   module _ (out : has (resource b r .list) u ≡ false) where
     pub grant-vertices : length (grant r u b .book .outer .sets)
@@ -338,7 +350,7 @@ module _ (b : Book) (h : sound b ≡ true) (r u : ℕ) (l : r < length (b .resou
         + ifAny (waiters b r u) (newVertices (b .outer) (holdersOf b r) + newTokens (b .outer) (holdersOf b r) + length (waiters b r u))
         + cond (agreed r u b) (cond (hasOuter (resource b r)) 1 0)
         (newVertices (b .outer) (grantedList r u b) + newTokens (b .outer) (grantedList r u b) + 1)
-    unfolding grant _then_ done relock outerVertex
+    unfolding grant _then_ done relock outerVertex settleRow
     grant-orders =
         omega (
           arith,
@@ -370,10 +382,7 @@ module _ (b : Book) (h : sound b ≡ true) (r u : ℕ) (l : r < length (b .resou
             )
 
         last : length (settle r d .orders) ≡ cond (agreed r u b) (cond (hasOuter (resource b r)) 1 0) (newVertices (b .outer) t + newTokens (b .outer) t + 1)
-        last =
-            ap (λ (e : Done). length (e .orders)) (settle-plan out)
-            ∙ ap (λ (z : Bool). length (cond z (cond (hasOuter (resource b r)) (relock r none d) (done d [])) (outerVertex t d then relock r (vertexFor (d .outer) t)) .orders)) agreed-are
-            ∙ own (agreed r u b) refl (hasOuter (resource b r))
+        last = ap (λ (e : Done). length (e .orders)) (settle-plan out) ∙ own (agreed r u b) refl (hasOuter (resource b r))
 
   -- the inner layer: one token where u is no holder, and no vertex
   pub grant-inner : grant r u b .book .inner ≡ c .inner
