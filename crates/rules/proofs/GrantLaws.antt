@@ -80,6 +80,43 @@ mem-grouped seen (y ∷ xs) {x} m n = go (λ s k h. mem-grouped s xs k h) (some 
     go ih false e (List·Memᴰ·head q) = List·Memᴰ·head (ap (λ (z : ℕ × Resource). z .0) q)
     go ih false e (List·Memᴰ·tail k) = tail ih k (eqb (x .1 .list) (y .1 .list)) refl
 
+-- ---- a neighbour: another resource with the inner vertex of r, whose list is not what the holders are
+
+pub record Neighbour (r : ℕ) (c : Book) (i : ℕ) : Type 0 where
+  pub there : i < length (c .resources)
+  pub other : i ≢ r
+  pub vertex : resource c i .inner ≡ resource c r .inner
+  pub differs : resource c i .list ≢ holdersOf c r
+
+pub neighbour-row : (r : ℕ) (c : Book) {x : ℕ × Resource} → List·Memᴰ x (neighbours r c) → Neighbour r c (x .0) × (x .1 ≡ resource c (x .0))
+unfolding neighbours resource
+neighbour-row r c {x} m =
+    let (o, p) = keep-mem (λ (x : ℕ × Resource). not (eqb (x .0) r) && eqb (x .1 .inner) (resource c r .inner) && not (eqb (x .1 .list) (holdersOf c r))) (numbered 0 (c .resources)) m in
+    let (j, h, q) = numbered-mem 0 (c .resources) (record { list = 0; inner = 0; outer = none }) o in
+    let (s, d) = both (not (eqb (x .0) r) && eqb (x .1 .inner) (resource c r .inner)) (not (eqb (x .1 .list) (holdersOf c r))) p in
+    let (n, w) = both (not (eqb (x .0) r)) (eqb (x .1 .inner) (resource c r .inner)) s in
+    let ij : x .0 ≡ j = ap (λ (x : ℕ × Resource). x .0) q ∙ zero-add j in
+    let e : x .1 ≡ resource c (x .0) = ap (λ (x : ℕ × Resource). x .1) q ∙ ap (resource c) (sym ij) in (
+      record {
+        there = omega arith;
+        other = eqb-false (x .0) r (not-true (eqb (x .0) r) n);
+        vertex = ap (λ (y : Resource). y .inner) (sym e) ∙ eqb-true (x .1 .inner) (resource c r .inner) w;
+        differs = λ z. eqb-false (x .1 .list) (holdersOf c r) (not-true (eqb (x .1 .list) (holdersOf c r)) d) (ap (λ (y : Resource). y .list) e ∙ z);
+      },
+      e,
+    )
+
+pub neighbour-open : (r : ℕ) (c : Book) (i : ℕ) → Neighbour r c i → open? c (resource c i) ≡ false
+unfolding open? holdersOf
+neighbour-open r c i n =
+    ap (λ (z : Bool). eqb (c .mode) 1 && z)
+    (ne-eqb (holders (c .inner) (resource c i .inner)) (resource c i .list) (λ e. n .differs (sym e ∙ ap (holders (c .inner)) (n .vertex))))
+    ∙ and-false (eqb (c .mode) 1)
+
+pub neighbour-in-order : (r : ℕ) (c : Book) {i : ℕ} → List·Memᴰ i (grouped [] (neighbours r c)) → Neighbour r c i
+neighbour-in-order r c {i} m =
+    let (x, n, e) = grouped-mem [] (neighbours r c) m in subst (Neighbour r c) (sym e) (neighbour-row r c n .0)
+
 -- ---- locking a run of resources for their own lists
 
 pub open-same : (b c : Book) (x y : Resource) → c .mode ≡ b .mode → c .inner ≡ b .inner → y .list ≡ x .list → y .inner ≡ x .inner → open? c y ≡ open? b x
@@ -246,7 +283,7 @@ module _ (b : Book) (k : Kept b) (a : AllLocked b) (r u : ℕ) (l : r < length (
   abbrev new : Resource
   new = record { list = l′; inner = resource b r .inner; outer = resource b r .outer }
 
-  at-r : resource b1 r ≡ new
+  pub at-r : resource b1 r ≡ new
   unfolding withList withResources resource
   at-r = getD-set-same (b .resources) r new (record { list = 0; inner = 0; outer = none }) l
 
@@ -281,7 +318,7 @@ module _ (b : Book) (k : Kept b) (a : AllLocked b) (r u : ℕ) (l : r < length (
             ap (λ (w : ℕ). has (holders M (resource b r .inner)) w) (eqb-true z u (sym (has-single u z) ∙ e))
             ∙ ap (λ (w : ℕ). has (holders M w) u) (sym ev) ∙ g .user
 
-    stage-kept : Kept b2
+    pub stage-kept : Kept b2
     unfolding withInner withList withResources held
     stage-kept =
         record {
@@ -299,7 +336,7 @@ module _ (b : Book) (k : Kept b) (a : AllLocked b) (r u : ℕ) (l : r < length (
               (has-within l′ (holders M (resource b r .inner)) held-new);
         }
 
-    other-row : (i : ℕ) → i ≢ r → resource b2 i ≡ resource b i
+    pub other-row : (i : ℕ) → i ≢ r → resource b2 i ≡ resource b i
     unfolding withInner withList withResources resource
     other-row i n = getD-set-other (b .resources) r i new (record { list = 0; inner = 0; outer = none }) n
 
@@ -344,22 +381,7 @@ module _ (b : Book) (k : Kept b) (a : AllLocked b) (r u : ℕ) (l : r < length (
 
     -- a neighbour in the order is a resource whose list is not what the holders are
     ns-are : (i : ℕ) → List·Memᴰ i ns → (i < length (b2 .resources)) × (open? b2 (resource b2 i) ≡ false)
-    unfolding neighbours open? holdersOf resource
-    ns-are i m =
-        let (x, n, e) = grouped-mem [] (neighbours r b2) m in
-        let (o, p) = keep-mem (λ (x : ℕ × Resource). not (eqb (x .0) r) && eqb (x .1 .inner) (resource b2 r .inner) && not (eqb (x .1 .list) (holdersOf b2 r))) (numbered 0 (b2 .resources)) n in
-        let (j, h, q) = numbered-mem 0 (b2 .resources) (record { list = 0; inner = 0; outer = none }) o in
-        let (a1, a2) = both (not (eqb (x .0) r) && eqb (x .1 .inner) (resource b2 r .inner)) (not (eqb (x .1 .list) (holdersOf b2 r))) p in
-        let ij : i ≡ j = e ∙ ap (λ (x : ℕ × Resource). x .0) q ∙ zero-add j in
-        let row : resource b2 i ≡ x .1 = ap (resource b2) ij ∙ sym (ap (λ (x : ℕ × Resource). x .1) q) in
-        let vi : x .1 .inner ≡ resource b2 r .inner = eqb-true (x .1 .inner) (resource b2 r .inner) (both (not (eqb (x .0) r)) (eqb (x .1 .inner) (resource b2 r .inner)) a1 .1) in (
-          omega arith,
-          ap (open? b2) row
-              ∙ ap (λ (z : Bool). eqb (b2 .mode) 1 && z)
-              (ne-eqb (holders (b2 .inner) (x .1 .inner)) (x .1 .list) (λ w.
-              eqb-false (x .1 .list) (holdersOf b2 r) (not-true (eqb (x .1 .list) (holdersOf b2 r)) a2) (sym w ∙ ap (holders (b2 .inner)) vi)))
-              ∙ and-false (eqb (b2 .mode) 1),
-        )
+    ns-are i m = let n = neighbour-in-order r b2 m in (n .there, neighbour-open r b2 i n)
 
     in-ns : (i : ℕ) → i < length (b2 .resources) → i ≢ r → resource b2 i .inner ≡ v → (resource b2 i .list ≡ holders M v → ⊥) → List·Memᴰ i ns
     unfolding neighbours holdersOf withInner resource some
@@ -389,10 +411,10 @@ module _ (b : Book) (k : Kept b) (a : AllLocked b) (r u : ℕ) (l : r < length (
   abbrev more-tokens : Layer
   more-tokens = record { sets = b .inner .sets; tokens = b .inner .tokens ++ (record { from = vertexFor (b .inner) (single u); to = v; kind = 1 } ∷ []) }
 
-  is-in : has (holders (b .inner) v) u ≡ true → LetIn (b .users) (b .inner) (b .inner) v u
+  pub is-in : has (holders (b .inner) v) u ≡ true → LetIn (b .users) (b .inner) (b .inner) v u
   is-in h = record { layered = k .inner; len = refl; sets = λ s m. m; more = λ w z e. e; user = h; rest = λ w n. refl; same = inl refl }
 
-  comes-in : has (holders (b .inner) v) u ≡ false → LetIn (b .users) (b .inner) more-tokens v u
+  pub comes-in : has (holders (b .inner) v) u ≡ false → LetIn (b .users) (b .inner) more-tokens v u
   comes-in h =
       record {
         layered = let-layered (b .users) (b .inner) (k .inner) u un v vl h;

@@ -9,6 +9,7 @@ pub mod LockLaws
 pub mod RevokeLaws
 pub mod LetInLaws
 pub mod GrantLaws
+pub mod HostLaws
 pub mod InsertLaws
 pub mod SoundLaws
 pub mod ChainLaws
@@ -26,3 +27,8 @@ pub mod KnowsLaws
 pub mod WalkLaws
 pub mod ViewLaws
 pub mod ShownLaws
+pub mod NeighbourLaws
+pub mod CountLaws
+pub mod GroupLaws
+pub mod PlanLaws
+pub mod OrderLaws
