@@ -1,6 +1,6 @@
 -- Rows as they are read: a number at its place in a row is a number at a place of the table.
 -- Assumes nothing.
-use mathlib.Core.Path.{_≡_, refl, ap, ap₂, sym, _∙_}
+use mathlib.Core.Path.{_≡_, refl, ap, ap₂, _∙_}
 use mathlib.Core.List.{List, [], _∷_}
 use Prim.Native.Nat.{ℕ, zero, suc, _+_, _*_, _≤_, _<_}
 use native.Mathlib.Nat.{suc-add, add-zero, not-suc-le-zero, mul-le-mul-right, suc-mul}
@@ -11,10 +11,11 @@ use lib.Seq.{take-take, drop-drop, take-nil}
 use Rattle.rows.specs.Number.{number, cell}
 use Rattle.rows.proofs.Laws.{cell-one}
 use Rattle.rows.proofs.Table.{row-at, length-rows}
-use Rattle.rules.specs.Layer.{token}
+use Rattle.rules.specs.Layer.{token, setOf}
 use Rattle.rules.specs.Book.{Resource}
 use Rattle.rules.specs.Bytes.{tokenOf, resourceOf, setsIn, tokensIn, resourcesIn}
-use Rattle.layer.specs.Laid.{noResource}
+use Rattle.layer.specs.Laid.{noResource, layerOf}
+use Rattle.layer.specs.declared.walk.Shape.{Shape}
 
 -- a row of a table lies within it
 pub row-within : (k n w : ℕ) → k < n → k * w + w ≤ n * w
@@ -89,3 +90,14 @@ unfolding resourcesIn resourceOf
 resource-at n t k h =
     row-at 12 resourceOf n t k noResource h
     ∙ rw (cell-row 8 0 12 (k * 12) t (lit≤ tt), cell-row 2 8 12 (k * 12) t (lit≤ tt), cell-row 2 10 12 (k * 12) t (lit≤ tt), add-zero)
+
+-- ---- the layer in its tables
+
+module _ (l : Shape) (ts vs : List ℕ) where
+  pub layer-tokens : length (layerOf l ts vs .tokens) ≡ l .tokens
+  unfolding layerOf
+  layer-tokens = length-tokens (l .width) (l .tokens) ts
+
+  pub layer-set : (v : ℕ) → setOf (layerOf l ts vs) v ≡ getD (setsIn (l .vertices) vs) v 0
+  unfolding layerOf setOf
+  layer-set v = refl

@@ -1,5 +1,5 @@
 -- `layer::table::token_in` meets its contract. Assumes nothing.
-use mathlib.Core.Path.{_≡_, sym, ap₂, _∙_}
+use mathlib.Core.Path.{sym, ap₂, _∙_}
 use Prim.Native.Nat.{ℕ, _+_, _*_, _≤_}
 use native.Mathlib.Omega.{arith}
 use lib.ListN.{getD}
