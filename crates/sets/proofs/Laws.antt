@@ -2,7 +2,7 @@
 -- Assumes nothing.
 use Prim.Native.Nat.{ℕ, zero, suc, _+_, _-_, _*_, _/_, _%_, _^_, _≤_, _<_, min, max}
 use mathlib.Core.Path.{_≡_, refl, sym, ap, ap₂, _∙_, subst}
-use mathlib.Core.Bool.{Bool, true, false, _&&_, _||_, not, true≢false, false≢true, or-true}
+use mathlib.Core.Bool.{Bool, true, false, _&&_, _||_, not, true≢false, false≢true, or-true, or-assoc}
 use mathlib.Core.Logic.{_⊎_, inl, inr}
 use native.Mathlib.Nat.{mod-lt, div-add-mod', zero-lt-suc, pow-suc, pow-zero, div-one, lt-of-not-le, le-refl, add-comm}
 use native.Mathlib.Numerals.{add-one}
@@ -113,6 +113,10 @@ same-users =
       div-add-mod' n 2,
       div-add-mod' b 2,
     ))
+
+pub union-assoc : (a b c : ℕ) → union (union a b) c ≡ union a (union b c)
+union-assoc a b c =
+    same-users (union (union a b) c) (union a (union b c)) (λ u. simp has-union (or-assoc (has a u) (has b u) (has c u)))
 
 -- ---- within
 

@@ -1,0 +1,4 @@
+pub mod Read
+pub mod Search
+pub mod Sources
+pub mod Write
