@@ -10,15 +10,16 @@ use native.Mathlib.Omega.{arith}
 use lib.Dec.{eqb}
 use lib.ListN.{length, getD}
 use borrow.Author.Tests.{eqb-true, eqb-false, eq-eqb, ne-eqb}
-use Rattle.sets.specs.Sets.{has, single, size}
+use Rattle.sets.specs.Sets.{has, single, size, inside}
 use Rattle.rules.specs.Lists.{first}
 use Rattle.rules.specs.Layer.{Layer, token, setOf}
 use Rattle.rules.specs.declared.Token.{Token}
 use Rattle.rules.specs.Holders.{into, sources}
+use Rattle.rules.specs.Sound.{rising, united}
 use Rattle.rules.specs.Open.{tokenAt, back, walk, chain}
 use Rattle.sets.proofs.Laws.{both, size-inside, single-of-size, has-size}
 use Rattle.rules.proofs.ListLaws.{getD-mem, first-le, first-at, mem-first}
-use Rattle.rules.proofs.DeriveLaws.{sources-mem, into-mem, a-vertex}
+use Rattle.rules.proofs.DeriveLaws.{sources-mem, into-mem, a-vertex, s4-at, s5-at}
 use Rattle.rules.proofs.LayerLaws.{Layered}
 
 -- ---- the first element that passes, by its index
@@ -108,7 +109,19 @@ unfolding back tokenAt
 back-least L u v i r =
     first-least (enters? L 0 v (λ s. has s u)) (L .tokens) (token 0 0 0) i (enters-true L 0 v (λ s. has s u) (tokenAt L i) (r .kind, r .to, r .names))
 
-module _ {n : ℕ} {L : Layer} (g : Layered n L) (u : ℕ) where
+-- ---- S4 and S5, by which the walk goes
+
+pub record Climbs (L : Layer) : Type 0 where
+  pub rises : (t : Token) → List·Memᴰ t (L .tokens) → t .kind ≡ 0 → inside (setOf L (t .from)) (setOf L (t .to)) ≡ true
+  pub unites : (v : ℕ) → v < length (L .sets) → (size (setOf L v) ≡ 1) ⊎ (setOf L v ≡ sources L (into 0 v (L .tokens)))
+
+pub climbs : {n : ℕ} {L : Layer} → Layered n L → Climbs L
+climbs g = record { rises = g .rises; unites = g .unites }
+
+pub kept-climbs : (L : Layer) → rising L ≡ true → united L ≡ true → Climbs L
+kept-climbs L h4 h5 = record { rises = λ t. s4-at L h4 h5; unites = s5-at L h4 h5 }
+
+module _ {L : Layer} (g : Climbs L) (u : ℕ) where
   -- at a vertex that is not the user's own there is one (S5)
   pub back-row : (v : ℕ) → has (setOf L v) u ≡ true → setOf L v ≢ single u → BackRow L u v (back L u v)
   unfolding back
