@@ -8,7 +8,7 @@ use mathlib.Core.List.{List, [], _∷_, _++_, List·Memᴰ}
 use native.Mathlib.Nat.{not-suc-le-zero, le-of-suc-le-suc, le-refl, lt-of-not-le}
 use native.Mathlib.Omega.{arith}
 use lib.Dec.{eqb}
-use lib.ListN.{length, getD}
+use lib.ListN.{length, getD, length-append}
 use borrow.Author.Tests.{eqb-true, eqb-false, eq-eqb, ne-eqb}
 use Rattle.sets.specs.Sets.{has, single, size, inside}
 use Rattle.rules.specs.Lists.{first}
@@ -108,6 +108,24 @@ pub back-least : (L : Layer) (u v i : ℕ) → BackRow L u v i → back L u v �
 unfolding back tokenAt
 back-least L u v i r =
     first-least (enters? L 0 v (λ s. has s u)) (L .tokens) (token 0 0 0) i (enters-true L 0 v (λ s. has s u) (tokenAt L i) (r .kind, r .to, r .names))
+
+-- ---- a walk is no longer than its bound, in any layer
+
+walk-within : (L : Layer) (u f v : ℕ) → length (walk L u f v) ≤ f
+unfolding walk
+walk-within L u zero v = le-refl 0
+walk-within L u (suc f) v = go (walk-within L u f (tokenAt L (back L u v) .from)) (eqb (setOf L v) (single u))
+  where
+    rows : List ℕ
+    rows = walk L u f (tokenAt L (back L u v) .from)
+
+    go : length rows ≤ f → (c : Bool) → length (cond c [] (rows ++ (back L u v ∷ []))) ≤ suc f
+    go h true = omega arith
+    go h false = omega (arith, length-append rows (back L u v ∷ []))
+
+pub chain-within : (L : Layer) (u v : ℕ) → length (chain L u v) ≤ size (setOf L v)
+unfolding chain
+chain-within L u v = walk-within L u (size (setOf L v)) v
 
 -- ---- S4 and S5, by which the walk goes
 
