@@ -3,6 +3,7 @@
 use Prim.Native.Nat.{ℕ, zero, suc, _+_, _*_, _^_, _≤_, _<_}
 use mathlib.Core.Path.{_≡_, refl, sym, ap, _∙_}
 use mathlib.Core.Bool.{Bool, true, false, _&&_, cond}
+use mathlib.Core.Logic.{_≢_}
 use mathlib.Core.List.{List, [], _∷_, _++_}
 use native.Mathlib.Omega.{arith}
 use lib.Dec.{eqb, ltb}
@@ -32,6 +33,10 @@ pub length-tokens : (w n : ℕ) (ts : List ℕ) → length (tokensIn w n ts) ≡
 unfolding tokensIn
 length-tokens w n ts = length-rows w tokenOf n ts
 
+pub length-layer : (l : Shape) (ts vs : List ℕ) → length (layerOf l ts vs .tokens) ≡ l .tokens
+unfolding layerOf
+length-layer l ts vs = length-tokens (l .width) (l .tokens) ts
+
 module _ (p : Token → Bool) (w n : ℕ) (ts : List ℕ) where
   abbrev pub Passed : ℕ → Type 0
   Passed i = (i ≤ n) × (i ≤ first p (tokensIn w n ts))
@@ -59,17 +64,17 @@ module _ (p : Token → Bool) (w n : ℕ) (ts : List ℕ) where
       rw (le-ltb (first p (tokensIn w n ts)) n over)
 
 -- what an answer says of the place
-pub found-at : (n i : ℕ) {j : ℕ} → foundIn n i ≡ At j → (i < n) × (i ≡ j)
+pub found-at : (n i : ℕ) {j : ℕ} → At j ≡ foundIn n i → (j < n) × (i ≡ j)
 found-at n i {j} e = go (ltb i n) refl e
   where
-    go : (c : Bool) → ltb i n ≡ c → cond c (At i) Nothing ≡ At j → (i < n) × (i ≡ j)
-    go true q e = (ltb-true i n q, cc)
+    go : (c : Bool) → ltb i n ≡ c → At j ≡ cond c (At i) Nothing → (j < n) × (i ≡ j)
+    go true q e = let k : i ≡ j = cc in (omega (arith, ltb-true i n q), k)
     go false q e = let z : _≡_ {A = ℕ} 0 1 = cc in absurd (omega arith)
 
-pub found-none : (n i : ℕ) → foundIn n i ≡ Nothing → n ≤ i
+found-none : (n i : ℕ) → Nothing ≡ foundIn n i → n ≤ i
 found-none n i e = go (ltb i n) refl e
   where
-    go : (c : Bool) → ltb i n ≡ c → cond c (At i) Nothing ≡ Nothing → n ≤ i
+    go : (c : Bool) → ltb i n ≡ c → Nothing ≡ cond c (At i) Nothing → n ≤ i
     go true q e = let z : _≡_ {A = ℕ} 0 1 = cc in absurd (omega arith)
     go false q e = ltb-false i n q
 
@@ -80,13 +85,22 @@ module _ (L : Layer) (u v : ℕ) where
   unfolding backFrom
   step-own e = rw (eq-eqb (setOf L v) (single u) e)
 
-  pub step-none : (setOf L v ≡ single u → ⊥) → length (L .tokens) ≤ back L u v → Own ≡ backFrom L u v
-  unfolding backFrom
-  step-none n l = rw (ne-eqb (setOf L v) (single u) n, le-ltb (back L u v) (length (L .tokens)) l)
+  module _ (n : setOf L v ≢ single u) where
+    step-through : back L u v < length (L .tokens) → Through (back L u v) (tokenAt L (back L u v) .from) ≡ backFrom L u v
+    unfolding backFrom
+    step-through l = rw (ne-eqb (setOf L v) (single u) n, lt-ltb (back L u v) (length (L .tokens)) l)
 
-  pub step-through : (setOf L v ≡ single u → ⊥) → back L u v < length (L .tokens) → Through (back L u v) (tokenAt L (back L u v) .from) ≡ backFrom L u v
-  unfolding backFrom
-  step-through n l = rw (ne-eqb (setOf L v) (single u) n, lt-ltb (back L u v) (length (L .tokens)) l)
+    -- by the search's answer
+    pub step-none : {k : ℕ} → length (L .tokens) ≡ k → Nothing ≡ foundIn k (back L u v) → Own ≡ backFrom L u v
+    unfolding backFrom
+    step-none e a =
+        let l : length (L .tokens) ≤ back L u v = rw e (found-none _ (back L u v) a) in
+        rw (ne-eqb (setOf L v) (single u) n, le-ltb (back L u v) (length (L .tokens)) l)
+
+    pub step-at : {k i w : ℕ} → length (L .tokens) ≡ k → At i ≡ foundIn k (back L u v) → w ≡ tokenAt L i .from → Through i w ≡ backFrom L u v
+    step-at {k} {i} {w} e a s =
+        let (l, q) = found-at k (back L u v) a in
+        rw (s, ← q) (step-through (rw (e, q) l))
 
 -- ---- the chain, by the step that the code takes
 
@@ -100,7 +114,7 @@ pub record Stepped (L : Layer) (u v i w : ℕ) : Type 0 where
 
 module _ {L : Layer} (g : Climbs L) (u v : ℕ) (h : has (setOf L v) u ≡ true) where
   -- past the user's own vertex there is a row back
-  on : (setOf L v ≡ single u → ⊥) → Stepped L u v (back L u v) (tokenAt L (back L u v) .from)
+  on : setOf L v ≢ single u → Stepped L u v (back L u v) (tokenAt L (back L u v) .from)
   on n =
       let r = back-row g u v h n in
       record { there = r .there; start = refl; names = r .names; falls = back-falls g u r; more = chain-step g u v h n }
