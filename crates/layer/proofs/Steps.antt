@@ -10,28 +10,24 @@ use lib.Dec.{eqb, ltb}
 use lib.ListN.{length, getD, set, length-append}
 use borrow.Author.Tests.{eqb-true, eqb-false, eq-eqb, ne-eqb, ltb-true, ltb-false, lt-ltb, le-ltb}
 use Rattle.sets.specs.Sets.{has, single, size}
-use Rattle.rows.specs.Number.{number, cell, stored}
-use Rattle.rows.proofs.Laws.{cell-below, stored-add, stored-sets, stored-none, length-stored}
-use Rattle.rows.proofs.Table.{row-at, length-rows}
+use Rattle.rows.specs.Number.{stored}
+use Rattle.rows.proofs.Laws.{cell-below, stored-add, stored-sets, length-stored}
 use Rattle.rules.specs.Layer.{Layer, token, setOf}
-use Rattle.rules.specs.Bytes.{Bytes, setsIn, tokensIn, tokenOf}
+use Rattle.rules.specs.Bytes.{Bytes, setsIn, tokensIn}
 use Rattle.rules.specs.Lists.{first}
 use Rattle.rules.specs.Open.{tokenAt, back, chain}
 use Rattle.rules.specs.declared.Token.{Token}
-use Rattle.rules.proofs.WalkLaws.{first-here, first-miss, first-past, Climbs, kept-climbs, BackRow, back-row, back-falls, chain-own, chain-step, chain-within}
-use Rattle.sets.proofs.Laws.{size-below}
-use Rattle.layer.specs.Laid.{Laid, Kept, layerOf, foundIn, backFrom}
+use Rattle.rules.proofs.WalkLaws.{first-miss, Climbs, back-row, back-falls, chain-own, chain-step}
+use Rattle.layer.specs.Laid.{layerOf, foundIn, backFrom}
 use Rattle.layer.specs.declared.walk.Shape.{Shape}
 use Rattle.layer.specs.declared.walk.Back.{Back}
 use Rattle.layer.specs.declared.walk.Back.the-variants.{Own, Through}
 use Rattle.layer.specs.declared.table.Found.{Found}
 use Rattle.layer.specs.declared.table.Found.the-variants.{At, Nothing}
+use Rattle.layer.proofs.Read.{length-tokens, set-at}
+use Rattle.layer.proofs.Search.{found-here, found-none}
 
 -- ---- a search among the n tokens of a table that has passed i of them, none of which passes the test p
-
-pub length-tokens : (w n : ℕ) (ts : List ℕ) → length (tokensIn w n ts) ≡ n
-unfolding tokensIn
-length-tokens w n ts = length-rows w tokenOf n ts
 
 pub length-layer : (l : Shape) (ts vs : List ℕ) → length (layerOf l ts vs .tokens) ≡ l .tokens
 unfolding layerOf
@@ -44,37 +40,32 @@ module _ (p : Token → Bool) (w n : ℕ) (ts : List ℕ) where
   abbrev pub answer : Found
   answer = foundIn n (first p (tokensIn w n ts))
 
-  -- the token here passes
+  -- the answer r of the test at the next token t is yes
   pub search-here : {t : Token} {r : Bool} {i : ℕ} → Passed i → i < n → t ≡ getD (tokensIn w n ts) i (token 0 0 0) → r ≡ p t → r ≡ true → At i ≡ answer
-  search-here {i = i} h l e a q =
-      let here : first p (tokensIn w n ts) ≡ i = first-here p (tokensIn w n ts) (token 0 0 0) i (h .1) (ap p (sym e) ∙ sym a ∙ q) in
-      rw (here, lt-ltb i n l)
+  search-here {i = i} h l e a q = found-here p (tokensIn w n ts) (token 0 0 0) n i (h .1) l (ap p (sym e) ∙ sym a ∙ q)
 
-  -- it does not
+  -- it is no
   pub search-on : {t : Token} {r : Bool} {i : ℕ} → Passed i → i < n → t ≡ getD (tokensIn w n ts) i (token 0 0 0) → r ≡ p t → r ≡ false → Passed (i + 1)
   search-on {i = i} h l e a q =
       let there : i < length (tokensIn w n ts) = rw length-tokens l in
-      (omega arith, omega (arith, first-miss p (tokensIn w n ts) (token 0 0 0) i (h .1) there (ap p (sym e) ∙ sym a ∙ q)))
+      omega (arith, first-miss p (tokensIn w n ts) (token 0 0 0) i (h .1) there (ap p (sym e) ∙ sym a ∙ q))
 
-  -- there is none left
+  -- there is no next token
   pub search-over : {i : ℕ} → Passed i → i ≡ n → Nothing ≡ answer
-  search-over {i} h e =
-      let past : length (tokensIn w n ts) ≤ i = rw length-tokens (omega arith) in
-      let over : n ≤ first p (tokensIn w n ts) = omega arith in
-      rw (le-ltb (first p (tokensIn w n ts)) n over)
+  search-over {i} h e = found-none p (tokensIn w n ts) (token 0 0 0) n i (h .1) (omega arith)
 
 -- what an answer says of the place
-pub found-at : (n i : ℕ) {j : ℕ} → At j ≡ foundIn n i → (j < n) × (i ≡ j)
-found-at n i {j} e = go (ltb i n) refl e
+pub found-at : {n i j : ℕ} {r : Found} → r ≡ At j → r ≡ foundIn n i → (j < n) × (i ≡ j)
+found-at {n} {i} {j} {r} a e = go (ltb i n) refl e
   where
-    go : (c : Bool) → ltb i n ≡ c → At j ≡ cond c (At i) Nothing → (j < n) × (i ≡ j)
+    go : (c : Bool) → ltb i n ≡ c → r ≡ cond c (At i) Nothing → (j < n) × (i ≡ j)
     go true q e = let k : i ≡ j = cc in (omega (arith, ltb-true i n q), k)
     go false q e = let z : _≡_ {A = ℕ} 0 1 = cc in absurd (omega arith)
 
-found-none : (n i : ℕ) → Nothing ≡ foundIn n i → n ≤ i
-found-none n i e = go (ltb i n) refl e
+not-found : {n i : ℕ} {r : Found} → r ≡ Nothing → r ≡ foundIn n i → n ≤ i
+not-found {n} {i} {r} a e = go (ltb i n) refl e
   where
-    go : (c : Bool) → ltb i n ≡ c → Nothing ≡ cond c (At i) Nothing → n ≤ i
+    go : (c : Bool) → ltb i n ≡ c → r ≡ cond c (At i) Nothing → n ≤ i
     go true q e = let z : _≡_ {A = ℕ} 0 1 = cc in absurd (omega arith)
     go false q e = ltb-false i n q
 
@@ -90,16 +81,16 @@ module _ (L : Layer) (u v : ℕ) where
     unfolding backFrom
     step-through l = rw (ne-eqb (setOf L v) (single u) n, lt-ltb (back L u v) (length (L .tokens)) l)
 
-    -- by the search's answer
-    pub step-none : {k : ℕ} → length (L .tokens) ≡ k → Nothing ≡ foundIn k (back L u v) → Own ≡ backFrom L u v
+    -- by the answer r of the search among the k tokens
+    pub step-none : {k : ℕ} {r : Found} → length (L .tokens) ≡ k → r ≡ Nothing → r ≡ foundIn k (back L u v) → Own ≡ backFrom L u v
     unfolding backFrom
-    step-none e a =
-        let l : length (L .tokens) ≤ back L u v = rw e (found-none _ (back L u v) a) in
+    step-none e a f =
+        let l : length (L .tokens) ≤ back L u v = rw e (not-found a f) in
         rw (ne-eqb (setOf L v) (single u) n, le-ltb (back L u v) (length (L .tokens)) l)
 
-    pub step-at : {k i w : ℕ} → length (L .tokens) ≡ k → At i ≡ foundIn k (back L u v) → w ≡ tokenAt L i .from → Through i w ≡ backFrom L u v
-    step-at {k} {i} {w} e a s =
-        let (l, q) = found-at k (back L u v) a in
+    pub step-at : {k i : ℕ} {r : Found} {t : Token} → length (L .tokens) ≡ k → r ≡ At i → r ≡ foundIn k (back L u v) → t ≡ tokenAt L i → Through i (t .from) ≡ backFrom L u v
+    step-at e a f s =
+        let (l, q) = found-at a f in
         rw (s, ← q) (step-through (rw (e, q) l))
 
 -- ---- the chain, by the step that the code takes
@@ -147,10 +138,9 @@ module _ {L : Layer} (g : Climbs L) (u v : ℕ) (h : has (setOf L v) u ≡ true)
 
 -- ---- in the tables
 
--- a set in a table has at most 64 users
+-- a set in a table
 pub set-below : (n : ℕ) (vs : List ℕ) (v : ℕ) → Bytes vs → v < n → getD (setsIn n vs) v 0 < 2 ^ 64
-unfolding setsIn cell
-set-below n vs v h l = rw (row-at 8 number n vs v 0) (cell-below 8 (v * 8) vs h)
+set-below n vs v h l = rw (set-at n vs v) (cell-below 8 (v * 8) vs h)
 
 -- one row more behind those that are written
 pub stored-more : (rows list : List ℕ) (i : ℕ) → length rows < length list → set (stored 0 rows list) (length rows) i ≡ stored 0 (rows ++ (i ∷ [])) list
