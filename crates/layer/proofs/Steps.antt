@@ -1,37 +1,36 @@
 -- The search among a layer's tokens and the walk back, as the code takes them: a search by its index, one step of the walk, and what a step makes of the chain.
 -- Assumes nothing.
-use Prim.Native.Nat.{ℕ, zero, suc, _+_, _*_, _^_, _≤_, _<_}
-use mathlib.Core.Path.{_≡_, refl, sym, ap, _∙_}
-use mathlib.Core.Bool.{Bool, true, false, _&&_, cond}
+use Prim.Native.Nat.{ℕ, _+_, _*_, _^_, _≤_, _<_}
+use mathlib.Core.Path.{_≡_, refl, sym, ap, ap₂, _∙_}
+use mathlib.Core.Bool.{Bool, true, false, cond}
 use mathlib.Core.Logic.{_≢_}
 use mathlib.Core.List.{List, [], _∷_, _++_}
+use native.Mathlib.Decide.{ℕ-discrete}
 use native.Mathlib.Omega.{arith}
-use lib.Dec.{eqb, ltb}
+use lib.Dec.{ltb}
 use lib.ListN.{length, getD, set, length-append}
-use borrow.Author.Tests.{eqb-true, eqb-false, eq-eqb, ne-eqb, ltb-true, ltb-false, lt-ltb, le-ltb}
+use borrow.Author.Tests.{eq-eqb, ne-eqb, ltb-true, ltb-false, lt-ltb, le-ltb}
 use Rattle.sets.specs.Sets.{has, single, size}
+use Rattle.sets.proofs.Laws.{size-below}
 use Rattle.rows.specs.Number.{stored}
 use Rattle.rows.proofs.Laws.{cell-below, stored-add, stored-sets, length-stored}
 use Rattle.rules.specs.Layer.{Layer, token, setOf}
-use Rattle.rules.specs.Bytes.{Bytes, setsIn, tokensIn}
+use Rattle.rules.specs.Bytes.{Bytes, tokensIn}
 use Rattle.rules.specs.Lists.{first}
 use Rattle.rules.specs.Open.{tokenAt, back, chain}
 use Rattle.rules.specs.declared.Token.{Token}
-use Rattle.rules.proofs.WalkLaws.{first-miss, Climbs, back-row, back-falls, chain-own, chain-step}
-use Rattle.layer.specs.Laid.{layerOf, foundIn, backFrom}
+use Rattle.rules.proofs.DeriveLaws.{a-vertex}
+use Rattle.rules.proofs.WalkLaws.{first-miss, Climbs, kept-climbs, chain-within, back-row, back-falls, chain-own, chain-step}
+use Rattle.layer.specs.Laid.{Kept, layerOf, foundIn, backFrom}
 use Rattle.layer.specs.declared.walk.Shape.{Shape}
 use Rattle.layer.specs.declared.walk.Back.{Back}
 use Rattle.layer.specs.declared.walk.Back.the-variants.{Own, Through}
 use Rattle.layer.specs.declared.table.Found.{Found}
 use Rattle.layer.specs.declared.table.Found.the-variants.{At, Nothing}
-use Rattle.layer.proofs.Read.{length-tokens, set-at}
+use Rattle.layer.proofs.Read.{length-sets, length-tokens, set-at}
 use Rattle.layer.proofs.Search.{found-here, found-none}
 
 -- ---- a search among the n tokens of a table that has passed i of them, none of which passes the test p
-
-pub length-layer : (l : Shape) (ts vs : List ℕ) → length (layerOf l ts vs .tokens) ≡ l .tokens
-unfolding layerOf
-length-layer l ts vs = length-tokens (l .width) (l .tokens) ts
 
 module _ (p : Token → Bool) (w n : ℕ) (ts : List ℕ) where
   abbrev pub Passed : ℕ → Type 0
@@ -71,6 +70,10 @@ not-found {n} {i} {r} a e = go (ltb i n) refl e
 
 -- ---- one step of the walk back
 
+pub length-layer : (l : Shape) (ts vs : List ℕ) → length (layerOf l ts vs .tokens) ≡ l .tokens
+unfolding layerOf
+length-layer l ts vs = length-tokens (l .width) (l .tokens) ts
+
 module _ (L : Layer) (u v : ℕ) where
   pub step-own : setOf L v ≡ single u → Own ≡ backFrom L u v
   unfolding backFrom
@@ -97,53 +100,66 @@ module _ (L : Layer) (u v : ℕ) where
 
 -- what a step over row i to the vertex w gives
 pub record Stepped (L : Layer) (u v i w : ℕ) : Type 0 where
-  pub there : i < length (L .tokens)
-  pub start : tokenAt L i .from ≡ w
   pub names : has (setOf L w) u ≡ true
   pub falls : size (setOf L w) < size (setOf L v)
   pub more : chain L u v ≡ chain L u w ++ (i ∷ [])
 
 module _ {L : Layer} (g : Climbs L) (u v : ℕ) (h : has (setOf L v) u ≡ true) where
-  -- past the user's own vertex there is a row back
-  on : setOf L v ≢ single u → Stepped L u v (back L u v) (tokenAt L (back L u v) .from)
-  on n =
+  -- past the user's own vertex there is a step
+  goes-on : setOf L v ≢ single u
+      → (Through (back L u v) (tokenAt L (back L u v) .from) ≡ backFrom L u v) × Stepped L u v (back L u v) (tokenAt L (back L u v) .from)
+  goes-on n =
       let r = back-row g u v h n in
-      record { there = r .there; start = refl; names = r .names; falls = back-falls g u r; more = chain-step g u v h n }
+      (step-through L u v n (r .there), record { names = r .names; falls = back-falls g u r; more = chain-step g u v h n })
 
-  pub chain-stops : Own ≡ backFrom L u v → chain L u v ≡ []
-  chain-stops e = go (eqb (setOf L v) (single u)) refl
+  -- by the answer r of the step
+  pub chain-stops : {r : Back} → r ≡ Own → r ≡ backFrom L u v → chain L u v ≡ []
+  chain-stops {r} a e = go (ℕ-discrete (setOf L v) (single u))
     where
-      go : (c : Bool) → eqb (setOf L v) (single u) ≡ c → chain L u v ≡ []
-      go true q = chain-own g u v (eqb-true (setOf L v) (single u) q)
-      go false q =
-          let n = eqb-false (setOf L v) (single u) q in
-          let z : Through (back L u v) (tokenAt L (back L u v) .from) ≡ Own = step-through L u v n (on n .there) ∙ sym e in
-          let y : _≡_ {A = ℕ} 0 1 = cc in
-          absurd (omega arith)
+      go : Dec (setOf L v ≡ single u) → chain L u v ≡ []
+      go (yes q) = chain-own g u v q
+      go (no n) = let p = goes-on n .0 in let z : _≡_ {A = ℕ} 0 1 = cc in absurd (omega arith)
 
-  pub chain-goes : {i w : ℕ} → Through i w ≡ backFrom L u v → Stepped L u v i w
-  chain-goes {i} {w} e = go (eqb (setOf L v) (single u)) refl
+  pub chain-goes : {r : Back} {i w : ℕ} → r ≡ Through i w → r ≡ backFrom L u v → Stepped L u v i w
+  chain-goes {r} {i} {w} a e = go (ℕ-discrete (setOf L v) (single u))
     where
-      go : (c : Bool) → eqb (setOf L v) (single u) ≡ c → Stepped L u v i w
-      go true q =
-          let z : Own ≡ Through i w = step-own L u v (eqb-true (setOf L v) (single u) q) ∙ sym e in
-          let y : _≡_ {A = ℕ} 0 1 = cc in
-          absurd (omega arith)
-      go false q =
-          let n = eqb-false (setOf L v) (single u) q in
-          let z : Through (back L u v) (tokenAt L (back L u v) .from) ≡ Through i w = step-through L u v n (on n .there) ∙ sym e in
-          let a : back L u v ≡ i = cc in
-          let b : tokenAt L (back L u v) .from ≡ w = cc in
-          rw a at (rw b at (on n))
+      go : Dec (setOf L v ≡ single u) → Stepped L u v i w
+      go (yes q) = let p = step-own L u v q in let z : _≡_ {A = ℕ} 0 1 = cc in absurd (omega arith)
+      go (no n) =
+          let (p, s) = goes-on n in
+          let row : back L u v ≡ i = cc in
+          let from : tokenAt L (back L u v) .from ≡ w = cc in
+          rw row at (rw from at s)
+
+pub length-more : {L : Layer} {u v i w : ℕ} → Stepped L u v i w → length (chain L u w) + 1 ≡ length (chain L u v)
+length-more {L} {u} {v} {i} {w} s = rw (s .more) (sym (length-append (chain L u w) (i ∷ [])))
+
+-- the step's row behind the k rows before it, which the list holds already
+pub written : {L : Layer} {u v i w k : ℕ} {after : List ℕ} (list : List ℕ) → Stepped L u v i w → k ≡ length (chain L u w) → after ≡ stored 0 (chain L u w) list
+    → k < length list → set after k i ≡ stored 0 (chain L u v) list
+written {L} {u} {v} {i} {w} list s e f l =
+    let rows = chain L u w in
+    let kept : length (stored 0 rows list) ≡ length list = length-stored 0 rows list (omega arith) in
+    ap₂ (λ (a : List ℕ) (b : ℕ). set a b i) f e
+    ∙ stored-sets (length rows) (i ∷ []) (stored 0 rows list) (omega arith)
+    ∙ stored-add 0 rows (i ∷ []) list (length rows) (omega arith) (omega arith)
+    ∙ ap (λ (x : List ℕ). stored 0 x list) (sym (s .more))
 
 -- ---- in the tables
 
--- a set in a table
-pub set-below : (n : ℕ) (vs : List ℕ) (v : ℕ) → Bytes vs → v < n → getD (setsIn n vs) v 0 < 2 ^ 64
-set-below n vs v h l = rw (set-at n vs v) (cell-below 8 (v * 8) vs h)
+module _ {l : Shape} {ts vs : List ℕ} (k : Kept l ts vs) where
+  pub kept : Climbs (layerOf l ts vs)
+  kept = kept-climbs (layerOf l ts vs) (k .s4) (k .s5)
 
--- one row more behind those that are written
-pub stored-more : (rows list : List ℕ) (i : ℕ) → length rows < length list → set (stored 0 rows list) (length rows) i ≡ stored 0 (rows ++ (i ∷ [])) list
-stored-more rows list i l =
-    let e : length (stored 0 rows list) ≡ length list = length-stored 0 rows list (omega arith) in
-    stored-sets (length rows) (i ∷ []) (stored 0 rows list) (omega arith) ∙ stored-add 0 rows (i ∷ []) list (length rows) (omega arith) (omega arith)
+  -- a vertex whose set names a user is one of the table's
+  pub in-table : (u v : ℕ) → has (setOf (layerOf l ts vs) v) u ≡ true → v < l .vertices
+  unfolding layerOf
+  in-table u v h = rw length-sets at (a-vertex (layerOf l ts vs) v u h)
+
+  -- a set of 8 bytes has at most 64 users, and the chain has no more rows
+  pub chain-fits : (u v : ℕ) → Bytes vs → v < l .vertices → length (chain (layerOf l ts vs) u v) ≤ 64
+  unfolding layerOf setOf
+  chain-fits u v b h =
+      let s = setOf (layerOf l ts vs) v in
+      let below : s < 2 ^ 64 = rw (set-at (l .vertices) vs v h) (cell-below 8 (v * 8) vs b) in
+      omega (arith, chain-within (layerOf l ts vs) u v, size-below 64 s below)

@@ -1,4 +1,5 @@
--- Searches and the walk back as code meets them: the first row by its index, one step of the walk, and a walk with more steps than needed.
+-- Searches and the walk back as code meets them: the first row by its index, one step of the walk, and a walk with more steps than needed. Of the
+-- layer they ask only S4 and S5.
 -- Assumes nothing.
 use Prim.Native.Nat.{ℕ, zero, suc, _≤_, _<_}
 use mathlib.Core.Path.{_≡_, refl, sym, ap, _∙_}
