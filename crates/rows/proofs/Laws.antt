@@ -6,7 +6,7 @@ use Prim.Native.Nat.{ℕ, zero, suc, _+_, _*_, _/_, _%_, _^_, _-_, _≤_, _<_, m
 use native.Mathlib.Nat.{pow-suc, pow-succ', mul-assoc, suc-add, zero-add, add-zero, add-assoc, one-le-pow, div-div-eq-div-mul, mod-one, div-one, mod-eq-of-lt}
 use native.Mathlib.Omega.{arith}
 use lib.ListN.{length, take, drop, getD, length-append, length-take, length-drop, take-append-drop}
-use lib.Seq.{take-add, drop-drop, take-append-le, drop-append-le, take-at, drop-at, take-take, drop-cons, length-take-le, sets, sets-eq}
+use lib.Seq.{getD-drop, take-add, drop-drop, take-append-le, drop-append-le, take-at, drop-at, take-take, drop-cons, length-take-le, sets, sets-eq}
 use lib.Arith.{mod-mul, digits-div, digits-mod}
 use Rattle.rows.specs.Number.{number, bytesOf, cell, stored}
 
@@ -35,6 +35,17 @@ cell-add m n at t h =
 pub cell-one : (at : ℕ) (t : List ℕ) → at < length t → cell 1 at t ≡ getD t at 0
 unfolding cell number
 cell-one at t h = rw (drop-cons t at 0) (omega arith)
+
+-- w bytes make a number below 256 ^ w
+number-below : (w : ℕ) (bs : List ℕ) → ((i : ℕ) → getD bs i 0 < 256) → number (take w bs) < 256 ^ w
+unfolding number
+number-below zero bs h = one-le-pow 0 256 (omega arith)
+number-below (suc w) [] h = one-le-pow (suc w) 256 (omega arith)
+number-below (suc w) (b ∷ bs) h = rw pow-succ' (omega (arith, number-below w bs (λ i. h (suc i)), h 0))
+
+pub cell-below : (w at : ℕ) (t : List ℕ) → ((i : ℕ) → getD t i 0 < 256) → cell w at t < 256 ^ w
+unfolding cell
+cell-below w at t h = number-below w (drop at t) (λ i. rw getD-drop (h (at + i)))
 
 -- the low bytes of a number: the low byte, and those above it
 low-byte : (w x : ℕ) → x % 256 ^ suc w ≡ (x / 256 % 256 ^ w) * 256 + x % 256

@@ -13,18 +13,18 @@ use lib.Dec.{eqb}
 use lib.ListN.{length, getD, length-append}
 use borrow.Author.Tests.{eqb-true, eq-eqb}
 use Rattle.sets.specs.Sets.{has, single, size}
 use Rattle.rules.specs.Layer.{Layer, Live, token, setOf}
 use Rattle.rules.specs.declared.Token.{Token}
 use Rattle.rules.specs.Holders.{byToken, holders}
 use Rattle.rules.specs.Sound.{unequal, otherRow}
 use Rattle.rules.specs.Derivation.{main, access, Knows, own, step, given}
 use Rattle.rules.specs.Open.{tokenAt, back, chain, direct, Leads, starts, goes, AccessRow}
 use Rattle.sets.proofs.Laws.{size-single, size-inside, has-size, has-own, has-union-cases}
-use Rattle.theorems.proofs.ListLaws.{getD-mem, pairwise-one}
-use Rattle.theorems.proofs.DeriveLaws.{a-vertex}
-use Rattle.theorems.proofs.LayerLaws.{Layered}
-use Rattle.theorems.proofs.KnowsLaws.{by-token}
-use Rattle.theorems.proofs.WalkLaws.{first-enters, back-row, back-falls, chain-own, chain-step}
+use Rattle.rules.proofs.ListLaws.{getD-mem, pairwise-one}
+use Rattle.rules.proofs.DeriveLaws.{a-vertex}
+use Rattle.rules.proofs.LayerLaws.{Layered}
+use Rattle.rules.proofs.KnowsLaws.{by-token}
+use Rattle.rules.proofs.WalkLaws.{first-enters, climbs, back-row, back-falls, chain-own, chain-step}
 
 -- ---- what such rows give, in any layer
 
@@ -71,11 +71,11 @@ module _ {n : ℕ} {L : Layer} (g : Layered n L) (u : ℕ) where
       at : (f v : ℕ) → size (setOf L v) ≤ suc f → has (setOf L v) u ≡ true
           → ((w : ℕ) → size (setOf L w) ≤ f → has (setOf L w) u ≡ true → Leads L u (chain L u w) w)
           → Dec (setOf L v ≡ single u) → Leads L u (chain L u v) v
-      at f v l h ih (yes e) = rw (chain-own g u v e) (starts (a-vertex L v u h) e)
+      at f v l h ih (yes e) = rw (chain-own (climbs g) u v e) (starts (a-vertex L v u h) e)
       at f v l h ih (no n) =
-          let r = back-row g u v h n in
-          let less : size (setOf L (tokenAt L (back L u v) .from)) < size (setOf L v) = back-falls g u r in
-          rw (chain-step g u v h n) (goes (ih (tokenAt L (back L u v) .from) (omega arith) (r .names)) (r .there) (r .kind) (r .to))
+          let r = back-row (climbs g) u v h n in
+          let less : size (setOf L (tokenAt L (back L u v) .from)) < size (setOf L v) = back-falls (climbs g) u r in
+          rw (chain-step (climbs g) u v h n) (goes (ih (tokenAt L (back L u v) .from) (omega arith) (r .names)) (r .there) (r .kind) (r .to))
 
       go : (f v : ℕ) → size (setOf L v) ≤ f → has (setOf L v) u ≡ true → Leads L u (chain L u v) v
       go zero v l h = absurd (omega (arith, has-size (setOf L v) u h))

@@ -1,4 +1,5 @@
--- Searches and the walk back as code meets them: the first row by its index, one step of the walk, and a walk with more steps than needed.
+-- Searches and the walk back as code meets them: the first row by its index, one step of the walk, and a walk with more steps than needed. Of the
+-- layer they ask only S4 and S5.
 -- Assumes nothing.
 use Prim.Native.Nat.{ℕ, zero, suc, _≤_, _<_}
 use mathlib.Core.Path.{_≡_, refl, sym, ap, _∙_}
@@ -8,18 +9,19 @@ use mathlib.Core.List.{List, [], _∷_, _++_, List·Memᴰ}
 use native.Mathlib.Nat.{not-suc-le-zero, le-of-suc-le-suc, le-refl, lt-of-not-le}
 use native.Mathlib.Omega.{arith}
 use lib.Dec.{eqb}
-use lib.ListN.{length, getD}
+use lib.ListN.{length, getD, length-append}
 use borrow.Author.Tests.{eqb-true, eqb-false, eq-eqb, ne-eqb}
-use Rattle.sets.specs.Sets.{has, single, size}
+use Rattle.sets.specs.Sets.{has, single, size, inside}
 use Rattle.rules.specs.Lists.{first}
 use Rattle.rules.specs.Layer.{Layer, token, setOf}
 use Rattle.rules.specs.declared.Token.{Token}
 use Rattle.rules.specs.Holders.{into, sources}
+use Rattle.rules.specs.Sound.{rising, united}
 use Rattle.rules.specs.Open.{tokenAt, back, walk, chain}
 use Rattle.sets.proofs.Laws.{both, size-inside, single-of-size, has-size}
-use Rattle.theorems.proofs.ListLaws.{getD-mem, first-le, first-at, mem-first}
-use Rattle.theorems.proofs.DeriveLaws.{sources-mem, into-mem, a-vertex}
-use Rattle.theorems.proofs.LayerLaws.{Layered}
+use Rattle.rules.proofs.ListLaws.{getD-mem, first-le, first-at, mem-first}
+use Rattle.rules.proofs.DeriveLaws.{sources-mem, into-mem, a-vertex, s4-at, s5-at}
+use Rattle.rules.proofs.LayerLaws.{Layered}
 
 -- ---- the first element that passes, by its index
 
@@ -108,7 +110,37 @@ unfolding back tokenAt
 back-least L u v i r =
     first-least (enters? L 0 v (λ s. has s u)) (L .tokens) (token 0 0 0) i (enters-true L 0 v (λ s. has s u) (tokenAt L i) (r .kind, r .to, r .names))
 
-module _ {n : ℕ} {L : Layer} (g : Layered n L) (u : ℕ) where
+-- ---- a walk is no longer than its bound, in any layer
+
+walk-within : (L : Layer) (u f v : ℕ) → length (walk L u f v) ≤ f
+unfolding walk
+walk-within L u zero v = le-refl 0
+walk-within L u (suc f) v = go (walk-within L u f (tokenAt L (back L u v) .from)) (eqb (setOf L v) (single u))
+  where
+    rows : List ℕ
+    rows = walk L u f (tokenAt L (back L u v) .from)
+
+    go : length rows ≤ f → (c : Bool) → length (cond c [] (rows ++ (back L u v ∷ []))) ≤ suc f
+    go h true = omega arith
+    go h false = omega (arith, length-append rows (back L u v ∷ []))
+
+pub chain-within : (L : Layer) (u v : ℕ) → length (chain L u v) ≤ size (setOf L v)
+unfolding chain
+chain-within L u v = walk-within L u (size (setOf L v)) v
+
+-- ---- S4 and S5, by which the walk goes
+
+pub record Climbs (L : Layer) : Type 0 where
+  pub rises : (t : Token) → List·Memᴰ t (L .tokens) → t .kind ≡ 0 → inside (setOf L (t .from)) (setOf L (t .to)) ≡ true
+  pub unites : (v : ℕ) → v < length (L .sets) → (size (setOf L v) ≡ 1) ⊎ (setOf L v ≡ sources L (into 0 v (L .tokens)))
+
+pub climbs : {n : ℕ} {L : Layer} → Layered n L → Climbs L
+climbs g = record { rises = g .rises; unites = g .unites }
+
+pub kept-climbs : (L : Layer) → rising L ≡ true → united L ≡ true → Climbs L
+kept-climbs L h4 h5 = record { rises = λ t. s4-at L h4 h5; unites = s5-at L h4 h5 }
+
+module _ {L : Layer} (g : Climbs L) (u : ℕ) where
   -- at a vertex that is not the user's own there is one (S5)
   pub back-row : (v : ℕ) → has (setOf L v) u ≡ true → setOf L v ≢ single u → BackRow L u v (back L u v)
   unfolding back
