@@ -246,7 +246,7 @@ module _ (b : Book) (k : Kept b) (a : AllLocked b) (r u : ℕ) (l : r < length (
   abbrev new : Resource
   new = record { list = l′; inner = resource b r .inner; outer = resource b r .outer }
 
-  at-r : resource b1 r ≡ new
+  pub at-r : resource b1 r ≡ new
   unfolding withList withResources resource
   at-r = getD-set-same (b .resources) r new (record { list = 0; inner = 0; outer = none }) l
 
@@ -281,7 +281,7 @@ module _ (b : Book) (k : Kept b) (a : AllLocked b) (r u : ℕ) (l : r < length (
             ap (λ (w : ℕ). has (holders M (resource b r .inner)) w) (eqb-true z u (sym (has-single u z) ∙ e))
             ∙ ap (λ (w : ℕ). has (holders M w) u) (sym ev) ∙ g .user
 
-    stage-kept : Kept b2
+    pub stage-kept : Kept b2
     unfolding withInner withList withResources held
     stage-kept =
         record {
@@ -299,7 +299,7 @@ module _ (b : Book) (k : Kept b) (a : AllLocked b) (r u : ℕ) (l : r < length (
               (has-within l′ (holders M (resource b r .inner)) held-new);
         }
 
-    other-row : (i : ℕ) → i ≢ r → resource b2 i ≡ resource b i
+    pub other-row : (i : ℕ) → i ≢ r → resource b2 i ≡ resource b i
     unfolding withInner withList withResources resource
     other-row i n = getD-set-other (b .resources) r i new (record { list = 0; inner = 0; outer = none }) n
 
@@ -389,10 +389,10 @@ module _ (b : Book) (k : Kept b) (a : AllLocked b) (r u : ℕ) (l : r < length (
   abbrev more-tokens : Layer
   more-tokens = record { sets = b .inner .sets; tokens = b .inner .tokens ++ (record { from = vertexFor (b .inner) (single u); to = v; kind = 1 } ∷ []) }
 
-  is-in : has (holders (b .inner) v) u ≡ true → LetIn (b .users) (b .inner) (b .inner) v u
+  pub is-in : has (holders (b .inner) v) u ≡ true → LetIn (b .users) (b .inner) (b .inner) v u
   is-in h = record { layered = k .inner; len = refl; sets = λ s m. m; more = λ w z e. e; user = h; rest = λ w n. refl; same = inl refl }
 
-  comes-in : has (holders (b .inner) v) u ≡ false → LetIn (b .users) (b .inner) more-tokens v u
+  pub comes-in : has (holders (b .inner) v) u ≡ false → LetIn (b .users) (b .inner) more-tokens v u
   comes-in h =
       record {
         layered = let-layered (b .users) (b .inner) (k .inner) u un v vl h;

@@ -16,7 +16,7 @@ use Rattle.rules.specs.Layer.{Layer, setOf, vertexFor}
 use Rattle.rules.specs.declared.Token.{Token}
 use Rattle.rules.specs.Holders.{into, sources, byToken, holders}
 use Rattle.rules.specs.Sound.{otherRow}
-use Rattle.sets.proofs.Laws.{both, has-within, within-has, has-own, has-union-left, has-union-right, has-union-cases, size-single}
+use Rattle.sets.proofs.Laws.{both, has-within, within-has, same-within, has-own, has-single, has-union-left, has-union-right, has-union-cases, size-single}
 use Rattle.rules.proofs.ListLaws.{keep-append, pairwise-append, mem-first, first-at}
 use Rattle.rules.proofs.DeriveLaws.{sources-mem, mem-sources, into-mem, mem-into}
 use Rattle.rules.proofs.LayerLaws.{Layered}
@@ -155,3 +155,34 @@ module _ (n : ℕ) (L : Layer) (g : Layered n L) (u : ℕ) (un : u < n) (v : ℕ
       has-union-right (setOf M v) (sources M (into 1 v (M .tokens))) u
       (mem-sources M u (into 1 v (M .tokens)) (mem-into (M .tokens) (Memᴰ·append-right (L .tokens) (List·Memᴰ·head refl)))
       (ap (λ (x : ℕ). has x u) (set-same o ∙ os) ∙ has-own u))
+
+  pub holds-only : holders M v ≡ union (holders L v) (single u)
+  unfolding holders byToken
+  holds-only =
+      same-within (holders M v) (union (holders L v) (single u))
+      (has-within (holders M v) (union (holders L v) (single u)) (λ z h. to z (has-union-cases (setOf M v) (sources M (into 1 v (M .tokens))) z h)))
+      (has-within (union (holders L v) (single u)) (holders M v) (λ z h. from z (has-union-cases (holders L v) (single u) z h)))
+    where
+      old : (z : ℕ) → has (holders L v) z ≡ true → has (union (holders L v) (single u)) z ≡ true
+      old z h = has-union-left (holders L v) (single u) z h
+
+      by-token : (z : ℕ) (x : Token) → has (setOf M (x .from)) z ≡ true → List·Memᴰ x (L .tokens) ⊎ List·Memᴰ x (t ∷ []) → x .kind ≡ 1 → x .to ≡ v
+          → has (union (holders L v) (single u)) z ≡ true
+      by-token z x q (inl m) k e =
+          old z
+          (has-union-right (setOf L v) (sources L (into 1 v (L .tokens))) z
+          (mem-sources L z (into 1 v (L .tokens)) (rw (k, e) at (mem-into (L .tokens) m)) (ap (λ (y : ℕ). has y z) (sym (set-same (x .from))) ∙ q)))
+      by-token z x q (inr m) k e =
+          has-union-right (holders L v) (single u) z
+          (ap (λ (y : ℕ). has y z) (sym (ap (λ (y : Token). setOf M (y .from)) (List·Memᴰ·eq-of-singleton m) ∙ set-same o ∙ os)) ∙ q)
+
+      to : (z : ℕ) → (has (setOf M v) z ≡ true) ⊎ (has (sources M (into 1 v (M .tokens))) z ≡ true) → has (union (holders L v) (single u)) z ≡ true
+      to z (inl e) = old z (has-union-left (setOf L v) (sources L (into 1 v (L .tokens))) z (ap (λ (y : ℕ). has y z) (sym (set-same v)) ∙ e))
+      to z (inr e) =
+          let (x, m, q) = sources-mem M z (into 1 v (M .tokens)) e in
+          let (n, k, w) = into-mem 1 v (M .tokens) m in
+          by-token z x q (List·Memᴰ·append-cases (L .tokens) n) k w
+
+      from : (z : ℕ) → (has (holders L v) z ≡ true) ⊎ (has (single u) z ≡ true) → has (holders M v) z ≡ true
+      from z (inl e) = holds-more v z e
+      from z (inr e) = ap (has (holders M v)) (eqb-true z u (sym (has-single u z) ∙ e)) ∙ holds-u

@@ -9,6 +9,7 @@ pub mod LockLaws
 pub mod RevokeLaws
 pub mod LetInLaws
 pub mod GrantLaws
+pub mod HostLaws
 pub mod InsertLaws
 pub mod SoundLaws
 pub mod ChainLaws
@@ -16,3 +17,6 @@ pub mod KnowsLaws
 pub mod WalkLaws
 pub mod ViewLaws
 pub mod ShownLaws
+pub mod NeighbourLaws
+pub mod CountLaws
+pub mod GroupLaws
