@@ -6,7 +6,7 @@ use native.Mathlib.Omega.{arith}
 use lib.ListN.{length, take, getD, length-map}
 use Rattle.rows.specs.Number.{stored, joined}
 use Rattle.rows.proofs.Laws.{stored-none}
-use Rattle.rows.proofs.Fill.{row-within, fill-length, fill-next}
+use Rattle.rows.proofs.Fill.{fill-length, fill-next}
 use Rattle.layer.specs.Cover.{orderOf, coverOrders}
 use Rattle.layer.proofs.cover.put_orders.Statement.{statement}
 use Rattle.layer.proofs.cover.put_orders.Tie as tie
