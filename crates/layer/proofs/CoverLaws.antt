@@ -114,8 +114,7 @@ pub taken-next : (from : List ℕ) (t v : ℕ) (l p : List ℕ) → length from 
     → (t < 64) × (take (t + 1) (set from t v) ++ l ≡ p)
 taken-next from t v l p n m h e =
     let le : t ≤ length from = omega arith in
-    let room : t < length from = omega (arith, ap length e, length-append (take t from) (v ∷ l), length-take-le t from le) in
-    (
+    let room : t < length from = omega (arith, ap length e, length-append (take t from) (v ∷ l), length-take-le t from le) in (
       omega arith,
       rw (add-one, take-suc-set from t v room, append-assoc) e,
     )

@@ -54,8 +54,7 @@ array-read-t17 c = omega arith
 put-token-requires : tie.Need-put-token-requires Inv-loop μ-loop
 put-token-requires c κs =
     let l = c .before .before in
-    let s = start l in
-    (
+    let s = start l in (
       s .pre .0,
       s .pre .1,
       omega (arith, long l, row-within (s .args .row + l .loop .i) (s .args .row + s .args .c .count) (s .args .width) (omega arith)),
@@ -72,13 +71,12 @@ unfolding coverBytes
 loop-again c =
     let l = c .before .before .before .before .before in
     let s = start l in
-    let i = l .loop .i in
-    (
+    let i = l .loop .i in (
       omega arith,
       c .before .before .put-token .ensures
-      ∙ ap (stored ((s .args .row + i) * s .args .width) (tokenRow (s .args .width) (token (getD (s .args .c .from) i 0) (s .args .new) 0))) (l .loop .inv .1)
-      ∙ fill-next (s .args .width) (λ v. tokenRow (s .args .width) (token v (s .args .new) 0)) (λ v. length-token-row (s .args .width) (token v (s .args .new) 0) (s .pre .1)) (s .args .row) (s .args .c .count) (s .args .c .from) i (s .args .tokens .now)
-      (s .pre .3) 0 (omega arith) (omega (arith, places s)),
+          ∙ ap (stored ((s .args .row + i) * s .args .width) (tokenRow (s .args .width) (token (getD (s .args .c .from) i 0) (s .args .new) 0))) (l .loop .inv .1)
+          ∙ fill-next (s .args .width) (λ v. tokenRow (s .args .width) (token v (s .args .new) 0)) (λ v. length-token-row (s .args .width) (token v (s .args .new) 0) (s .pre .1)) (s .args .row) (s .args .c .count) (s .args .c .from) i (s .args .tokens .now)
+          (s .pre .3) 0 (omega arith) (omega (arith, places s)),
     )
 
 same-length : tie.Need-same-length Inv-loop μ-loop

@@ -60,13 +60,12 @@ unfolding coverOrders
 loop-again c =
     let l = c .before .before .before .before .before in
     let s = start l in
-    let i = l .loop .i in
-    (
+    let i = l .loop .i in (
       omega arith,
       c .before .before .put-order .ensures
-      ∙ ap (stored ((s .args .row + i) * 3) (orderOf (s .args .kind) (getD (s .args .c .from) i 0) (s .args .new))) (l .loop .inv .1)
-      ∙ fill-next 3 (λ v. orderOf (s .args .kind) v (s .args .new)) (λ v. refl) (s .args .row) (s .args .c .count) (s .args .c .from) i (s .args .orders .now)
-      (s .pre .1) 0 (omega arith) (omega (arith, places s)),
+          ∙ ap (stored ((s .args .row + i) * 3) (orderOf (s .args .kind) (getD (s .args .c .from) i 0) (s .args .new))) (l .loop .inv .1)
+          ∙ fill-next 3 (λ v. orderOf (s .args .kind) v (s .args .new)) (λ v. refl) (s .args .row) (s .args .c .count) (s .args .c .from) i (s .args .orders .now)
+          (s .pre .1) 0 (omega arith) (omega (arith, places s)),
     )
 
 same-length : tie.Need-same-length Inv-loop μ-loop
