@@ -1,6 +1,6 @@
 -- The cover rule as a walk down the sizes and up the vertices: what is taken and what is left to take, together, are the cover.
 -- Assumes nothing.
-use mathlib.Core.Path.{_≡_, refl, sym, ap, _∙_}
+use mathlib.Core.Path.{_≡_, refl, ap, _∙_}
 use mathlib.Core.Bool.{Bool, true, false, _&&_, not, cond}
 use mathlib.Core.List.{List, [], _∷_, _++_, append-assoc, append-nil}
 use Prim.Native.Nat.{ℕ, zero, suc, _+_, _-_, _*_, _≤_, _<_}
@@ -8,8 +8,8 @@ use native.Mathlib.Nat.{add-zero, add-suc, suc-add, zero-add, suc-mul, not-suc-l
 use native.Mathlib.Numerals.{add-one}
 use native.Mathlib.Omega.{arith}
 use lib.Dec.{eqb}
-use lib.ListN.{length, take, drop, set, getD, length-append, drop-of-length-le}
-use lib.Seq.{length-take-le, take-suc-set}
+use lib.ListN.{length, take, drop, set, getD, length-append, length-take, drop-of-length-le}
+use lib.Seq.{take-suc-set}
 use borrow.Author.Tests.{eqb-true}
 use Rattle.sets.specs.Sets.{union, within, inside, size}
 use Rattle.sets.proofs.Laws.{both, size-none, within-empty}
@@ -71,18 +71,19 @@ takes-step s k c v vs ws =
     table false false w x y = refl
 
 module _ (s : ℕ) (sets : List ℕ) (k i c : ℕ) where
-  step : i < length sets → rest s sets k i c
-      ≡ cond (fresh s k c sets i) (i ∷ rest s sets k (i + 1) (union c (getD sets i 0))) (rest s sets k (i + 1) c)
+  -- with the code's answer to whether the vertex at i adds a user
+  step : (b : Bool) → i < length sets → b ≡ fresh s k c sets i
+      → rest s sets k i c ≡ cond b (i ∷ rest s sets k (i + 1) (union c (getD sets i 0))) (rest s sets k (i + 1) c)
   unfolding rest
-  step h =
-      rw (add-one, drop-numbered 0 sets i h, zero-add)
+  step b h e =
+      rw (e, add-one, drop-numbered 0 sets i h, zero-add)
       (takes-step s k c (i, getD sets i 0) (drop (suc i) (numbered 0 sets)) (bySize s k (numbered 0 sets)))
 
-  pub rest-hit : i < length sets → fresh s k c sets i ≡ true → rest s sets k i c ≡ i ∷ rest s sets k (i + 1) (union c (getD sets i 0))
-  rest-hit h e = step h ∙ rw e
+  pub rest-hit : {b : Bool} → i < length sets → b ≡ fresh s k c sets i → b ≡ true → rest s sets k i c ≡ i ∷ rest s sets k (i + 1) (union c (getD sets i 0))
+  rest-hit {b} h e y = step b h e ∙ rw y
 
-  pub rest-miss : i < length sets → fresh s k c sets i ≡ false → rest s sets k i c ≡ rest s sets k (i + 1) c
-  rest-miss h e = step h ∙ rw e
+  pub rest-miss : {b : Bool} → i < length sets → b ≡ fresh s k c sets i → b ≡ false → rest s sets k i c ≡ rest s sets k (i + 1) c
+  rest-miss {b} h e y = step b h e ∙ rw y
 
   -- past the last vertex
   past : length sets ≤ i → rest s sets k i c ≡ takes c (bySize s k (numbered 0 sets))
@@ -109,17 +110,14 @@ rest-start s sets i h = past s sets (size s) i 0 h
 
 -- ---- what is taken
 
--- the first t of `from` are taken, and l is left: with the next vertex of l stored there is room for it, and one less is left
-pub taken-next : (from : List ℕ) (t v : ℕ) (l p : List ℕ) → length from ≡ 64 → length p ≤ 64 → t ≤ 64 → take t from ++ (v ∷ l) ≡ p
-    → (t < 64) × (take (t + 1) (set from t v) ++ l ≡ p)
-taken-next from t v l p n m h e =
-    let le : t ≤ length from = omega arith in
-    let room : t < length from = omega (arith, ap length e, length-append (take t from) (v ∷ l), length-take-le t from le) in (
-      omega arith,
-      rw (add-one, take-suc-set from t v room, append-assoc) e,
-    )
+-- the cover p is what stands in the first t places, then v, then l: p has at most as many vertices as there are places, so there is one for v
+pub taken-next : (m : ℕ) (from : List ℕ) (t v : ℕ) (l p : List ℕ) → length from ≡ m → length p ≤ m → take t from ++ (v ∷ l) ≡ p
+    → (t < m) × (take (t + 1) (set from t v) ++ l ≡ p)
+taken-next m from t v l p n h e =
+    let room : t < length from = omega (arith, simp (length-append, length-take) at (ap length e)) in
+    (omega arith, rw (add-one, take-suc-set from t v room, append-assoc) e)
 
--- the walk goes down the sizes and up the vertices
+-- what the walk has before it falls where it goes down to the next size
 pub falls : (k n i : ℕ) → 1 < k → (k - 1) * (n + 1) + (n - 0) < k * (n + 1) + (n - i)
 falls k n i h =
     let e : k ≡ suc (k - 1) = omega arith in

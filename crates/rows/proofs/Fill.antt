@@ -1,7 +1,7 @@
 -- Rows of one width that are stored one after the other: a loop that fills a table. Assumes nothing.
-use mathlib.Core.Path.{_≡_, refl, sym, ap, _∙_}
+use mathlib.Core.Path.{_≡_, sym, ap, _∙_}
 use mathlib.Core.List.{List, [], _∷_, _++_, append-assoc, append-nil, map}
-use Prim.Native.Nat.{ℕ, suc, _+_, _*_, _≤_, _<_}
+use Prim.Native.Nat.{ℕ, _+_, _*_, _≤_, _<_}
 use native.Mathlib.Nat.{suc-mul, add-mul, mul-le-mul-left, mul-le-mul-right}
 use native.Mathlib.Numerals.{add-one}
 use native.Mathlib.Omega.{arith}
@@ -19,6 +19,10 @@ row-within k m w h = omega (arith, mul-le-mul-right w h, suc-mul k w)
 pub le-product : (m w : ℕ) → 1 ≤ w → m ≤ m * w
 le-product m w h = omega (arith, mul-le-mul-left m h)
 
+-- the table t with the rows of the first i elements of a list stored from `row` on
+abbrev pub Filled : {A : Type 0} → ℕ → (A → List ℕ) → ℕ → List A → List ℕ → ℕ → List ℕ → Type 0
+Filled w f row xs t i a = a ≡ stored (row * w) (joined (map f (take i xs))) t
+
 module _ {A : Type 0} (w : ℕ) (f : A → List ℕ) (wide : (x : A) → length (f x) ≡ w) where
   all-wide : (xs : List A) → Wide w (map f xs)
   all-wide [] = tt
@@ -32,24 +36,27 @@ module _ {A : Type 0} (w : ℕ) (f : A → List ℕ) (wide : (x : A) → length 
   one-more [] x = append-nil (f x)
   one-more (y ∷ xs) x = rw (one-more xs x) (sym (append-assoc (f y) (joined (map f xs)) (f x)))
 
-  -- the first i elements of a list have their rows from `row` on; the table has room for m
-  module _ (row m : ℕ) (xs : List A) (i : ℕ) (t : List ℕ) (room : (row + m) * w ≤ length t) where
-    pub fill-length : i ≤ m → i ≤ length xs → length (stored (row * w) (joined (map f (take i xs))) t) ≡ length t
-    fill-length h k =
-        let n : length (take i xs) ≡ i = length-take-le i xs k in
+  -- a loop over the first m elements stores their rows, where t has room for them
+  module _ (row m : ℕ) (xs : List A) (t : List ℕ) (room : (row + m) * w ≤ length t) (there : m ≤ length xs) where
+    pub fill-length : (i : ℕ) {a : List ℕ} → i ≤ m → Filled w f row xs t i a → length a ≡ length t
+    fill-length i h e =
+        let n : length (take i xs) ≡ i = length-take-le i xs (omega arith) in
         let low : row + i ≤ row + m = omega arith in
-        length-stored (row * w) (joined (map f (take i xs))) t
+        ap length e
+        ∙ length-stored (row * w) (joined (map f (take i xs))) t
         (rw (long (take i xs), n) (omega (arith, add-mul row i w, mul-le-mul-right w low)))
 
     -- and the next one
-    pub fill-next : (d : A) → i < m → i < length xs
-        → stored ((row + i) * w) (f (getD xs i d)) (stored (row * w) (joined (map f (take i xs))) t)
-        ≡ stored (row * w) (joined (map f (take (i + 1) xs))) t
-    fill-next d h k =
+    pub fill-next : (d : A) (i : ℕ) {a b : List ℕ} → i < m → Filled w f row xs t i a → b ≡ stored ((row + i) * w) (f (getD xs i d)) a
+        → Filled w f row xs t (i + 1) b
+    fill-next d i h e k =
         let n : length (take i xs) ≡ i = length-take-le i xs (omega arith) in
         let at : (row + i) * w ≡ row * w + length (joined (map f (take i xs))) = rw (long (take i xs), n) (add-mul row i w) in
         let low : row + i < row + m = omega arith in
-        stored-add (row * w) (joined (map f (take i xs))) (f (getD xs i d)) t ((row + i) * w) at
+        let more : i < length xs = omega arith in
+        k
+        ∙ ap (stored ((row + i) * w) (f (getD xs i d))) e
+        ∙ stored-add (row * w) (joined (map f (take i xs))) (f (getD xs i d)) t ((row + i) * w) at
         (rw (wide (getD xs i d)) (omega (arith, row-within (row + i) (row + m) w low)))
         ∙ ap (λ (bs : List ℕ). stored (row * w) bs t)
-        (sym (one-more (take i xs) (getD xs i d)) ∙ ap (λ (ys : List A). joined (map f ys)) (sym (take-suc xs i d k) ∙ ap (λ (j : ℕ). take j xs) (sym (add-one i))))
+        (rw (add-one, take-suc xs i d more) (sym (one-more (take i xs) (getD xs i d))))

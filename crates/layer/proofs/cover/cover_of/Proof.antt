@@ -55,7 +55,7 @@ at-vertex c = rw length-sets (omega arith)
 past-last : (c : tie.Then1 Inv-loop μ-loop Inv-cover μ-cover) → length (sets (start (c .before))) ≤ c .before .loop .i
 past-last c = rw length-sets (omega arith)
 
--- what stands behind the places that are taken, when it is told in another way
+-- with what is left to take told in another way, the two parts are still the cover
 told : (c : tie.At-loop Inv-loop μ-loop Inv-cover μ-cover) (l : List ℕ)
     → rest (start c .args .s .0) (sets (start c)) (c .loop .k) (c .loop .i) (c .before .cover .covered) ≡ l
     → take (c .before .cover .taken) (c .before .cover .from) ++ l ≡ covering (start c)
@@ -71,9 +71,9 @@ next c =
     let l = c .before .before .before in
     let s = start l in
     let x = l .before .cover in
-    taken-next (x .from) (x .taken) (l .loop .i) (rest (s .args .s .0) (sets s) (l .loop .k) (l .loop .i + 1) (union (x .covered) (getD (sets s) (l .loop .i) 0))) (covering s)
-    (x .inv .2) (short (l .before .before)) (x .inv .1)
-    (told l _ (rest-hit (s .args .s .0) (sets s) (l .loop .k) (l .loop .i) (x .covered) (at-vertex (c .before .before)) (sym (c .before .adds .ensures) ∙ c .if3 .taken)))
+    taken-next 64 (x .from) (x .taken) (l .loop .i) (rest (s .args .s .0) (sets s) (l .loop .k) (l .loop .i + 1) (union (x .covered) (getD (sets s) (l .loop .i) 0))) (covering s)
+    (x .inv .2) (short (l .before .before))
+    (told l _ (rest-hit (s .args .s .0) (sets s) (l .loop .k) (l .loop .i) (x .covered) (at-vertex (c .before .before)) (c .before .adds .ensures) (c .if3 .taken)))
 
 size-requires : tie.Need-size-requires Inv-loop μ-loop Inv-cover μ-cover
 size-requires c κs = search needs
@@ -117,7 +117,7 @@ loop-again-2 c =
     let l = asked .before .before in
     let s = start l in (
       omega arith,
-      told l _ (rest-miss (s .args .s .0) (sets s) (l .loop .k) (l .loop .i) (l .before .cover .covered) (at-vertex (asked .before)) (sym (asked .adds .ensures) ∙ c .if3 .left)),
+      told l _ (rest-miss (s .args .s .0) (sets s) (l .loop .k) (l .loop .i) (l .before .cover .covered) (at-vertex (asked .before)) (asked .adds .ensures) (c .if3 .left)),
     )
 
 cast-from : tie.Need-cast-from Inv-loop μ-loop Inv-cover μ-cover
