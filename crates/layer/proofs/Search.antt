@@ -8,7 +8,7 @@ use native.Mathlib.Omega.{arith}
 use lib.ListN.{getD}
 use borrow.Author.Tests.{lt-ltb, le-ltb}
 use Rattle.rules.specs.Lists.{first}
-use Rattle.rules.proofs.WalkLaws.{first-here}
+use Rattle.theorems.proofs.WalkLaws.{first-here}
 use Rattle.layer.specs.Laid.{foundIn}
 use Rattle.layer.specs.declared.table.Found.the-variants.{At, Nothing}
 

@@ -16,7 +16,7 @@ use Rattle.rules.specs.Layer.{Layer, token, setOf}
 use Rattle.rules.specs.Holders.{into, sources}
 use Rattle.rules.specs.Open.{tokenAt}
 use Rattle.rules.specs.declared.Token.{Token}
-use Rattle.rules.proofs.ListLaws.{keep-append}
+use Rattle.theorems.proofs.ListLaws.{keep-append}
 
 pub sources-append : (L : Layer) (ts us : List Token) → sources L (ts ++ us) ≡ union (sources L ts) (sources L us)
 unfolding sources

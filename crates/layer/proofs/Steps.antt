@@ -19,8 +19,8 @@ use Rattle.rules.specs.Bytes.{Bytes, tokensIn}
 use Rattle.rules.specs.Lists.{first}
 use Rattle.rules.specs.Open.{tokenAt, back, chain}
 use Rattle.rules.specs.declared.Token.{Token}
-use Rattle.rules.proofs.DeriveLaws.{a-vertex}
-use Rattle.rules.proofs.WalkLaws.{first-miss, Climbs, kept-climbs, chain-within, back-row, back-falls, chain-own, chain-step}
+use Rattle.theorems.proofs.DeriveLaws.{a-vertex}
+use Rattle.theorems.proofs.WalkLaws.{first-miss, Climbs, kept-climbs, chain-within, back-row, back-falls, chain-own, chain-step}
 use Rattle.layer.specs.Laid.{Kept, layerOf, foundIn, backFrom}
 use Rattle.layer.specs.declared.walk.Shape.{Shape}
 use Rattle.layer.specs.declared.walk.Back.{Back}

@@ -8,7 +8,7 @@ use lib.ListN.{length, take, set, getD, length-set}
 use lib.Seq.{length-take-le}
 use Rattle.sets.specs.Sets.{union}
 use Rattle.rules.specs.Bytes.{setsIn}
-use Rattle.rules.proofs.CountLaws.{cover-size}
+use Rattle.theorems.proofs.CountLaws.{cover-size}
 use Rattle.layer.specs.Cover.{coverOf}
 use Rattle.layer.proofs.Read.{length-sets}
 use Rattle.layer.proofs.CoverLaws.{rest, rest-hit, rest-miss, rest-down, rest-end, rest-start, taken-next, falls}

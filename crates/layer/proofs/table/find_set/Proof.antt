@@ -6,7 +6,7 @@ use lib.ListN.{length, getD}
 use borrow.Author.Tests.{eq-eqb, ne-eqb}
 use Rattle.rules.specs.Lists.{first}
 use Rattle.rules.specs.Bytes.{setsIn}
-use Rattle.rules.proofs.WalkLaws.{first-miss}
+use Rattle.theorems.proofs.WalkLaws.{first-miss}
 use Rattle.layer.specs.Laid.{isSet}
 use Rattle.layer.proofs.Read.{length-sets}
 use Rattle.layer.proofs.Search.{found-here, found-none}
