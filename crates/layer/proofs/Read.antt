@@ -10,16 +10,13 @@ use lib.ListN.{length, take, drop, getD, length-take, drop-of-length-le}
 use lib.Seq.{take-take, drop-drop, take-nil}
 use Rattle.rows.specs.Number.{number, cell}
 use Rattle.rows.proofs.Laws.{cell-one}
+use Rattle.rows.proofs.Fill.{row-within}
 use Rattle.rows.proofs.Table.{row-at, length-rows}
 use Rattle.rules.specs.Layer.{token, setOf}
 use Rattle.rules.specs.Book.{Resource}
 use Rattle.rules.specs.Bytes.{tokenOf, resourceOf, setsIn, tokensIn, resourcesIn}
 use Rattle.layer.specs.Laid.{noResource, layerOf}
 use Rattle.layer.specs.declared.walk.Shape.{Shape}
-
--- a row of a table lies within it
-pub row-within : (k n w : ℕ) → k < n → k * w + w ≤ n * w
-row-within k n w h = omega (arith, mul-le-mul-right w h, suc-mul k w)
 
 -- ---- a number in a row
 

@@ -10,6 +10,7 @@ use Rattle.sets.specs.Sets.{has, single}
 use Rattle.rules.specs.Layer.{Layer, setOf}
 use Rattle.rules.specs.Book.{Resource, none}
 use Rattle.rules.specs.Bytes.{innerRow, setsIn, tokensIn}
+use Rattle.rules.specs.Holders.{into, sources}
 use Rattle.rules.specs.Sound.{rising, united}
 use Rattle.rules.specs.Open.{back, tokenAt}
 use Rattle.rules.specs.declared.Token.{Token}
@@ -57,6 +58,10 @@ pub record Kept (l : Shape) (ts vs : List ℕ) : Type 0 where
   pub laid : Laid l ts vs
   pub s4 : rising (layerOf l ts vs) ≡ true
   pub s5 : united (layerOf l ts vs) ≡ true
+
+-- the union of the sets of the sources of the tokens of kind k into v
+abbrev pub sourcesInto : Layer → ℕ → ℕ → ℕ
+sourcesInto L k v = sources L (into k v (L .tokens))
 
 -- a kind 0 token that enters v and whose source's set names u (the test of `back`)
 abbrev pub entersFrom : ℕ → List ℕ → ℕ → ℕ → Token → Bool

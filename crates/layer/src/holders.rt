@@ -7,7 +7,7 @@ ghost use mathlib.Core.Path.{_≡_};
 ghost use Prim.Native.Nat.{_<_};
 ghost use Rattle.rules.specs.Layer.{setOf};
 ghost use Rattle.rules.specs.Holders.{byToken};
-ghost use Rattle.layer.specs.Laid.{Laid, layerOf};
+ghost use Rattle.layer.specs.Laid.{Laid, layerOf, sourcesInto};
 
 // Who holds a vertex's access key: by its starting set, and by a kind 1 token.
 pub struct Holders {
@@ -15,16 +15,16 @@ pub struct Holders {
     pub token: Users,
 }
 
-// Whoever a kind 1 token lets in to vertex v.
-pub fn by_token(tokens: &[u8], vertices: &[u8], l: Shape, v: u16) -> Users
+// The union of the sets of the sources of the tokens of a kind into vertex v: S5's union for kind 0, whoever is let in for kind 1.
+pub fn sources_into(tokens: &[u8], vertices: &[u8], l: Shape, kind: u8, v: u16) -> Users
     requires { ⌜ Laid l (now tokens) (now vertices) ⌝ }
-    ensures { λ r. ⌜ r .0 ≡ byToken (layerOf l (now (tokens .entry)) (now (vertices .entry))) v ⌝ }
+    ensures { λ r. ⌜ r .0 ≡ sourcesInto (layerOf l (now (tokens .entry)) (now (vertices .entry))) kind v ⌝ }
 {
     let mut all: u64 = 0;
     let mut i: usize = 0;
     while i < l.tokens {
         let t = token_in(tokens, l.width, l.tokens, i);
-        if t.kind == 1 {
+        if t.kind == kind {
             if t.to == v {
                 let more = Users(all).union(set_of(vertices, l.vertices, t.from as usize));
                 all = more.0;
@@ -43,6 +43,6 @@ pub fn holders_of(tokens: &[u8], vertices: &[u8], l: Shape, v: u16) -> Holders
     ensures { λ r. ⌜ r .token .0 ≡ byToken (layerOf l (now (tokens .entry)) (now (vertices .entry))) v ⌝ }
 {
     let start = set_of(vertices, l.vertices, v as usize);
-    let token = by_token(tokens, vertices, l, v);
+    let token = sources_into(tokens, vertices, l, 1, v);
     Holders { start, token }
 }
