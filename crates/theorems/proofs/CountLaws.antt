@@ -20,6 +20,7 @@ use Rattle.rules.specs.Requests.{order, vertexOrders}
 use Rattle.sets.proofs.Laws.{has-within, within-has, has-union-left, has-union-cases, has-own, size-ones, size-mono, size-inside, size-zero, within-union, within-empty, inside-within}
 use Rattle.theorems.proofs.ListLaws.{keep-append, first-le}
 use Rattle.theorems.proofs.CoverLaws.{bySize-mem}
+use Rattle.theorems.specs.Plan.{newVertices, newTokens}
 
 -- ---- sets
 
@@ -78,12 +79,6 @@ cover-size L s =
     )
 
 -- ---- the rows that a vertex for s adds to a layer
-
-unfoldable pub newVertices : Layer → ℕ → ℕ
-newVertices L s = cond (found L s) 0 1
-
-unfoldable pub newTokens : Layer → ℕ → ℕ
-newTokens L s = cond (found L s) 0 (length (cover L s))
 
 pub newVertices-one : (L : Layer) (s : ℕ) → newVertices L s ≤ 1
 unfolding newVertices

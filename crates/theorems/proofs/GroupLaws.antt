@@ -26,8 +26,9 @@ use Rattle.theorems.proofs.LayerLaws.{set-old}
 use Rattle.theorems.proofs.RevokeLaws.{AllLocked, member}
 use Rattle.theorems.proofs.GrantLaws.{neighbour-in-order, neighbour-open, Passed, lockAll-laws}
 use Rattle.theorems.proofs.SoundLaws.{sound-kept, sound-locked}
-use Rattle.theorems.proofs.CountLaws.{newVertices, newTokens, vertexOrders-count, withVertex-vertices, withVertex-tokens, found-made, vertex-made, found-kept, cover-beside, withVertex-found, vertexOrders-found}
-use Rattle.theorems.proofs.NeighbourLaws.{Grew, Started, grantedList, letInBook, length-keep-less, grouped-fewer, then-same, after-nothing, waits, waiters, Waits, waits-are, not-waits, grant-starts, run-waiters, grant-plain, room-for-all}
+use Rattle.theorems.proofs.CountLaws.{vertexOrders-count, withVertex-vertices, withVertex-tokens, found-made, vertex-made, found-kept, cover-beside, withVertex-found, vertexOrders-found}
+use Rattle.theorems.proofs.NeighbourLaws.{Grew, Started, letInBook, length-keep-less, grouped-fewer, then-same, after-nothing, Waits, waits-are, not-waits, grant-starts, run-waiters, grant-plain, room-for-all}
+use Rattle.theorems.specs.Plan.{newVertices, newTokens, grantedList, waits, waiters, ifAny, lockGroup, relockAll}
 
 pub then-assoc : (d : Done) (f g : Book → Done) → (d then f) then g ≡ d then (λ b. f b then g)
 unfolding _then_
@@ -36,14 +37,6 @@ then-assoc d f g =
     (append-assoc (d .orders) (f (d .book) .orders) (g (f (d .book) .book) .orders))
 
 -- ---- a group of resources: the vertex is found or made once, and each member re-locked with it
-
-unfoldable pub relockAll : List ℕ → ℕ → Book → Done
-relockAll [] v b = done b []
-relockAll (i ∷ is) v b = relock i v b then relockAll is v
-
-unfoldable pub lockGroup : List ℕ → ℕ → Book → Done
-lockGroup [] s b = done b []
-lockGroup (i ∷ is) s b = outerVertex s b then relockAll (i ∷ is) (vertexFor (b .outer) s)
 
 -- resources with list s and no outer key
 abbrev pub Bare : ℕ → Book → List ℕ → Type 0
@@ -138,11 +131,6 @@ pub group-others : (is : List ℕ) (s : ℕ) (b : Book) (j : ℕ) → ((i : ℕ)
 unfolding lockGroup _then_ outerVertex done withOuter resource
 group-others [] s b j n = refl
 group-others (i ∷ is) s b j n = relockAll-others (i ∷ is) (vertexFor (b .outer) s) (outerVertex s b .book) j n
-
--- n where the group has a member
-abbrev pub ifAny : List ℕ → ℕ → ℕ
-ifAny [] n = 0
-ifAny (i ∷ is) n = n
 
 pub group-count : (is : List ℕ) (s : ℕ) (b : Book) → length (lockGroup is s b .orders) ≡ ifAny is (newVertices (b .outer) s + newTokens (b .outer) s + length is)
 unfolding lockGroup done

@@ -26,12 +26,9 @@ use Rattle.theorems.proofs.LockLaws.{Kept, Relocked, lock-laws}
 use Rattle.theorems.proofs.RevokeLaws.{AllLocked, open?, member, locks-more}
 use Rattle.theorems.proofs.GrantLaws.{Neighbour, neighbour-row, neighbour-open, neighbour-in-order, open-same, relocked-lists, at-r, stage-kept, other-row, is-in, comes-in}
 use Rattle.theorems.proofs.SoundLaws.{sound-kept, sound-locked, sound-counts}
+use Rattle.theorems.specs.Plan.{grantedList, waits, waiters}
 
 -- ---- the book after the list has grown and the user is let in
-
--- the list of r with u
-abbrev pub grantedList : ℕ → ℕ → Book → ℕ
-grantedList r u b = union (resource b r .list) (single u)
 
 abbrev pub letInBook : ℕ → ℕ → Book → Book
 letInBook r u b = letIn r u (withList b r (grantedList r u b)) .book
@@ -416,15 +413,6 @@ pub grouped-fewer : (r : ℕ) (c : Book) → r < length (c .resources) → lengt
 grouped-fewer r c l = omega (arith, grouped-length [] (neighbours r c), length-keep (fresh []) (neighbours r c), neighbours-fewer r c l)
 
 -- ---- the run of locks of a grant, by resource number
-
--- i is to be locked by a grant of r to u: in delta mode, where u comes in, with the vertex of r and the old holders for its list
-unfoldable pub waits : Book → ℕ → ℕ → ℕ → Bool
-waits b r u i =
-    eqb (b .mode) 1 && not (has (holdersOf b r) u) && not (eqb i r) && eqb (resource b i .inner) (resource b r .inner) && eqb (resource b i .list) (holdersOf b r)
-
--- those that wait, in ascending order
-unfoldable pub waiters : Book → ℕ → ℕ → List ℕ
-waiters b r u = keep (waits b r u) (upTo (length (b .resources)))
 
 pub record Waits (b : Book) (r u i : ℕ) : Type 0 where
   pub delta : b .mode ≡ 1

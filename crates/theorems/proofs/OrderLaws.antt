@@ -34,10 +34,11 @@ use Rattle.theorems.proofs.ShownLaws.{inner-few, outer-few}
 use Rattle.rules.specs.Derivation.{Opens}
 use Rattle.theorems.proofs.RevokeLaws.{member}
 use Rattle.theorems.proofs.SoundLaws.{sound-kept, sound-locked, sound-counts}
-use Rattle.theorems.proofs.CountLaws.{size-below, size-lacking, newVertices, newTokens, newVertices-one, newTokens-size, withVertex-vertices}
-use Rattle.theorems.proofs.NeighbourLaws.{grantedList, waiters, Waits}
-use Rattle.theorems.proofs.GroupLaws.{ifAny, waiters-mem, waiters-fewer}
-use Rattle.theorems.proofs.PlanLaws.{agreed, insertAgrees, revokedList, revoked, grant-vertices, grant-orders, revoke-outer, revoke-orders, insert-inner, insert-outer, insert-orders}
+use Rattle.theorems.proofs.CountLaws.{size-below, size-lacking, newVertices-one, newTokens-size, withVertex-vertices}
+use Rattle.theorems.proofs.NeighbourLaws.{Waits}
+use Rattle.theorems.proofs.GroupLaws.{waiters-mem, waiters-fewer}
+use Rattle.theorems.proofs.PlanLaws.{insertAgrees, revoked, grant-vertices, grant-orders, revoke-outer, revoke-orders, insert-inner, insert-outer, insert-orders}
+use Rattle.theorems.specs.Plan.{newVertices, newTokens, grantedList, waiters, ifAny, revokedList, agreed}
 
 pub join-rows : (b : Book) → length (join b .orders) ≡ 2
 unfolding join done
