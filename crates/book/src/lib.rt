@@ -1,0 +1,115 @@
+// The book as bytes: sections, reading and writing.
+use rules::{Head, InnerTokens, InnerVertices, Joined, Mode, OuterTokens, OuterVertices, Resources, WIDTHS};
+ghost use mathlib.Core.Path.{_≡_};
+ghost use Prim.Native.Nat.{_+_, _*_, _≤_, _<_};
+ghost use lib.ListN.{length, take, getD};
+ghost use Rattle.rows.specs.Number.{stored};
+ghost use Rattle.book.specs.Ready.{Loadable, Savable};
+ghost use Rattle.rules.specs.Bytes.{tables, headIn, header, counts, start, laid, read, bookIn, write, Room};
+
+// The head that a book's first 17 bytes give.
+pub fn head_in(bytes: &[u8]) -> Head
+    requires { ⌜ 17 ≤ length (now bytes) ⌝ }
+    ensures { λ r. ⌜ r ≡ headIn (now (bytes .entry)) ⌝ }
+{
+    let mode = Mode(bytes[5] as u16);
+    let users = Joined(bytes[6] as u16);
+    let resources = Resources(rows::get2(bytes, 7));
+    let inner_vertices = InnerVertices(rows::get2(bytes, 9));
+    let inner_tokens = InnerTokens(rows::get2(bytes, 11));
+    let outer_vertices = OuterVertices(rows::get2(bytes, 13));
+    let outer_tokens = OuterTokens(rows::get2(bytes, 15));
+    Head { mode, users, resources, inner_vertices, inner_tokens, outer_vertices, outer_tokens }
+}
+
+// The header of a book, into the first 17 bytes.
+fn put_header(buffer: &mut [u8], h: Head)
+    requires { ⌜ (17 ≤ length (now buffer)) × (h .mode .0 < 256) × (h .users .0 < 256) ⌝ }
+    ensures { λ _. ⌜ now (buffer .exit) ≡ stored 0 (header h) (now (buffer .entry)) ⌝ }
+{
+    buffer[0] = 0x54;
+    buffer[1] = 0x4B;
+    buffer[2] = 0x42;
+    rows::put2(buffer, 3, 1);
+    buffer[5] = h.mode.0 as u8;
+    buffer[6] = h.users.0 as u8;
+    rows::put2(buffer, 7, h.resources.0);
+    rows::put2(buffer, 9, h.inner_vertices.0);
+    rows::put2(buffer, 11, h.inner_tokens.0);
+    rows::put2(buffer, 13, h.outer_vertices.0);
+    rows::put2(buffer, 15, h.outer_tokens.0);
+}
+
+// How many rows section k has.
+fn count_of(h: Head, k: usize) -> usize
+    ensures { λ r. ⌜ r ≡ getD (counts h) k 0 ⌝ }
+{
+    match k {
+        0 => h.inner_vertices.0 as usize,
+        1 => h.inner_tokens.0 as usize,
+        2 => h.outer_vertices.0 as usize,
+        3 => h.outer_tokens.0 as usize,
+        4 => h.resources.0 as usize,
+        _ => 0,
+    }
+}
+
+// Where section k starts; 5 is the end.
+pub fn start_of(h: Head, k: usize) -> usize
+    requires { ⌜ k ≤ 5 ⌝ }
+    ensures { λ r. ⌜ r ≡ start h k ⌝ }
+{
+    let mut at: usize = 17;
+    let mut i: usize = 0;
+    while i < k {
+        at += count_of(h, i) * WIDTHS[i];
+        i += 1;
+    }
+    at
+}
+
+// Bytes over the first of others.
+fn copy(from: &[u8], to: &mut [u8])
+    requires { ⌜ length (now from) ≤ length (now to) ⌝ }
+    ensures { λ _. ⌜ now (to .exit) ≡ stored 0 (now (from .entry)) (now (to .entry)) ⌝ }
+{
+    let mut i: usize = 0;
+    while i < from.len() {
+        to[i] = from[i];
+        i += 1;
+    }
+}
+
+// The five sections of a book into five tables.
+fn load(bytes: &[u8], h: Head, inner_vertices: &mut [u8], inner_tokens: &mut [u8], outer_vertices: &mut [u8], outer_tokens: &mut [u8], resources: &mut [u8])
+    requires { ⌜ Loadable (now bytes) h (tables (now inner_vertices) (now inner_tokens) (now outer_vertices) (now outer_tokens) (now resources)) ⌝ }
+    ensures { λ _. ⌜ (tables (now (inner_vertices .exit)) (now (inner_tokens .exit)) (now (outer_vertices .exit)) (now (outer_tokens .exit)) (now (resources .exit))) ≡ laid (read (now (bytes .entry))) (tables (now (inner_vertices .entry)) (now (inner_tokens .entry)) (now (outer_vertices .entry)) (now (outer_tokens .entry)) (now (resources .entry))) ⌝ }
+{
+    let a = start_of(h, 1);
+    let b = start_of(h, 2);
+    let c = start_of(h, 3);
+    let d = start_of(h, 4);
+    copy(&bytes[17..a], inner_vertices);
+    copy(&bytes[a..b], inner_tokens);
+    copy(&bytes[b..c], outer_vertices);
+    copy(&bytes[c..d], outer_tokens);
+    copy(&bytes[d..], resources);
+}
+
+// Header and sections, one after the other.
+fn save(h: Head, inner_vertices: &[u8], inner_tokens: &[u8], outer_vertices: &[u8], outer_tokens: &[u8], resources: &[u8], buffer: &mut [u8])
+    requires { ⌜ Savable h (tables (now inner_vertices) (now inner_tokens) (now outer_vertices) (now outer_tokens) (now resources)) (now buffer) ⌝ }
+    ensures { λ _. ⌜ now (buffer .exit) ≡ stored 0 (write (bookIn h (tables (now (inner_vertices .entry)) (now (inner_tokens .entry)) (now (outer_vertices .entry)) (now (outer_tokens .entry)) (now (resources .entry))))) (now (buffer .entry)) ⌝ }
+{
+    put_header(buffer, h);
+    let a = start_of(h, 1);
+    let b = start_of(h, 2);
+    let c = start_of(h, 3);
+    let d = start_of(h, 4);
+    copy(&inner_vertices[0..a - 17], &mut buffer[17..]);
+    copy(&inner_tokens[0..b - a], &mut buffer[a..]);
+    copy(&outer_vertices[0..c - b], &mut buffer[b..]);
+    copy(&outer_tokens[0..d - c], &mut buffer[c..]);
+    let e = h.resources.0 as usize * 12;
+    copy(&resources[0..e], &mut buffer[d..]);
+}
