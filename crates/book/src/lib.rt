@@ -1,5 +1,13 @@
-// The book as bytes: sections, reading and writing.
-use rules::{Head, InnerTokens, InnerVertices, Joined, Mode, OuterTokens, OuterVertices, Resources, WIDTHS};
+// The book as bytes: sections, reading and writing. The five tables are iv, it, ov, ot, rs: inner vertices and tokens, outer vertices and tokens, resources.
+use rules::Head;
+use rules::InnerTokens;
+use rules::InnerVertices;
+use rules::Joined;
+use rules::Mode;
+use rules::OuterTokens;
+use rules::OuterVertices;
+use rules::Resources;
+use rules::WIDTHS;
 ghost use mathlib.Core.Path.{_≡_};
 ghost use Prim.Native.Nat.{_+_, _*_, _≤_, _<_};
 ghost use lib.ListN.{length, take, getD};
@@ -19,7 +27,15 @@ pub fn head_in(bytes: &[u8]) -> Head
     let inner_tokens = InnerTokens(rows::get2(bytes, 11));
     let outer_vertices = OuterVertices(rows::get2(bytes, 13));
     let outer_tokens = OuterTokens(rows::get2(bytes, 15));
-    Head { mode, users, resources, inner_vertices, inner_tokens, outer_vertices, outer_tokens }
+    Head {
+        mode,
+        users,
+        resources,
+        inner_vertices,
+        inner_tokens,
+        outer_vertices,
+        outer_tokens,
+    }
 }
 
 // The header of a book, into the first 17 bytes.
@@ -81,35 +97,43 @@ fn copy(from: &[u8], to: &mut [u8])
 }
 
 // The five sections of a book into five tables.
-fn load(bytes: &[u8], h: Head, inner_vertices: &mut [u8], inner_tokens: &mut [u8], outer_vertices: &mut [u8], outer_tokens: &mut [u8], resources: &mut [u8])
-    requires { ⌜ Loadable (now bytes) h (tables (now inner_vertices) (now inner_tokens) (now outer_vertices) (now outer_tokens) (now resources)) ⌝ }
-    ensures { λ _. ⌜ (tables (now (inner_vertices .exit)) (now (inner_tokens .exit)) (now (outer_vertices .exit)) (now (outer_tokens .exit)) (now (resources .exit))) ≡ laid (read (now (bytes .entry))) (tables (now (inner_vertices .entry)) (now (inner_tokens .entry)) (now (outer_vertices .entry)) (now (outer_tokens .entry)) (now (resources .entry))) ⌝ }
+fn load(
+    bytes: &[u8],
+    h: Head,
+    iv: &mut [u8],
+    it: &mut [u8],
+    ov: &mut [u8],
+    ot: &mut [u8],
+    rs: &mut [u8],
+)
+    requires { ⌜ Loadable (now bytes) h (tables (now iv) (now it) (now ov) (now ot) (now rs)) ⌝ }
+    ensures { λ _. ⌜ (tables (now (iv .exit)) (now (it .exit)) (now (ov .exit)) (now (ot .exit)) (now (rs .exit))) ≡ laid (read (now (bytes .entry))) (tables (now (iv .entry)) (now (it .entry)) (now (ov .entry)) (now (ot .entry)) (now (rs .entry))) ⌝ }
 {
     let a = start_of(h, 1);
     let b = start_of(h, 2);
     let c = start_of(h, 3);
     let d = start_of(h, 4);
-    copy(&bytes[17..a], inner_vertices);
-    copy(&bytes[a..b], inner_tokens);
-    copy(&bytes[b..c], outer_vertices);
-    copy(&bytes[c..d], outer_tokens);
-    copy(&bytes[d..], resources);
+    copy(&bytes[17..a], iv);
+    copy(&bytes[a..b], it);
+    copy(&bytes[b..c], ov);
+    copy(&bytes[c..d], ot);
+    copy(&bytes[d..], rs);
 }
 
 // Header and sections, one after the other.
-fn save(h: Head, inner_vertices: &[u8], inner_tokens: &[u8], outer_vertices: &[u8], outer_tokens: &[u8], resources: &[u8], buffer: &mut [u8])
-    requires { ⌜ Savable h (tables (now inner_vertices) (now inner_tokens) (now outer_vertices) (now outer_tokens) (now resources)) (now buffer) ⌝ }
-    ensures { λ _. ⌜ now (buffer .exit) ≡ stored 0 (write (bookIn h (tables (now (inner_vertices .entry)) (now (inner_tokens .entry)) (now (outer_vertices .entry)) (now (outer_tokens .entry)) (now (resources .entry))))) (now (buffer .entry)) ⌝ }
+fn save(h: Head, iv: &[u8], it: &[u8], ov: &[u8], ot: &[u8], rs: &[u8], buffer: &mut [u8])
+    requires { ⌜ Savable h (tables (now iv) (now it) (now ov) (now ot) (now rs)) (now buffer) ⌝ }
+    ensures { λ _. ⌜ now (buffer .exit) ≡ stored 0 (write (bookIn h (tables (now (iv .entry)) (now (it .entry)) (now (ov .entry)) (now (ot .entry)) (now (rs .entry))))) (now (buffer .entry)) ⌝ }
 {
     put_header(buffer, h);
     let a = start_of(h, 1);
     let b = start_of(h, 2);
     let c = start_of(h, 3);
     let d = start_of(h, 4);
-    copy(&inner_vertices[0..a - 17], &mut buffer[17..]);
-    copy(&inner_tokens[0..b - a], &mut buffer[a..]);
-    copy(&outer_vertices[0..c - b], &mut buffer[b..]);
-    copy(&outer_tokens[0..d - c], &mut buffer[c..]);
+    copy(&iv[0..a - 17], &mut buffer[17..]);
+    copy(&it[0..b - a], &mut buffer[a..]);
+    copy(&ov[0..c - b], &mut buffer[b..]);
+    copy(&ot[0..d - c], &mut buffer[c..]);
     let e = h.resources.0 as usize * 12;
-    copy(&resources[0..e], &mut buffer[d..]);
+    copy(&rs[0..e], &mut buffer[d..]);
 }
