@@ -1,15 +1,19 @@
--- The book's bytes as code writes them: stores one behind the other. Assumes nothing.
-use Prim.Native.Nat.{ℕ, _+_, _≤_, _<_}
-use mathlib.Core.Path.{_≡_, refl, ap, _∙_}
-use mathlib.Core.List.{List, [], _∷_, _++_}
+-- The book's bytes as code reads and writes them: sections cut out of them, and stores one behind the other. Assumes nothing.
+use Prim.Native.Nat.{ℕ, suc, _+_, _*_, _-_, _≤_, _<_}
+use mathlib.Core.Path.{_≡_, refl, sym, ap, ap₂, _∙_}
+use mathlib.Core.List.{List, [], _∷_, _++_, append-nil}
 use native.Mathlib.Nat.{mod-eq-of-lt, zero-add}
 use native.Mathlib.Omega.{arith}
-use lib.ListN.{length}
-use lib.Seq.{sets}
+use lib.ListN.{length, getD, take, drop, length-append, length-drop, drop-of-length-le}
+use lib.Seq.{sets, take-all, length-take-le, drop-drop}
+use borrow.Rule.Slice.PartMut.{putMid}
 use Rattle.rows.specs.Number.{bytesOf, stored}
 use Rattle.rows.proofs.Laws.{stored-add, stored-sets, length-stored}
-use Rattle.rules.specs.Bytes.{header}
+use Rattle.rules.specs.Bytes.{Bytes, widths, Tables, tables, header, headIn, counts, total, start, section, read, laid, bookIn, write}
 use Rattle.rules.specs.declared.Head.{Head}
+use Rattle.rules.proofs.ByteLaws.{TableBytes, head-in, sections-in}
+use Rattle.rules.proofs.WriteLaws.{length-header, start-next, sections-read}
+use Rattle.book.specs.Ready.{Loadable, Savable}
 
 -- a store right behind the first bytes makes one store of both
 pub stored-behind : (k : ℕ) (a b t u v : List ℕ) → length a ≡ k → k + length b ≤ length t → u ≡ stored 0 a t → v ≡ stored k b u → v ≡ stored 0 (a ++ b) t
@@ -20,6 +24,20 @@ pub sets-behind : (k : ℕ) (a b t u v : List ℕ) → length a ≡ k → k + le
 sets-behind k a b t u v e l p q =
     let n : length u ≡ length t = ap length p ∙ length-stored 0 a t (omega arith) in
     stored-behind k a b t u v e l p (q ∙ stored-sets k b u (omega arith))
+
+-- a store in the part behind `at`, as a store in the whole
+pub stored-part : (at : ℕ) (bs t ys : List ℕ) → at ≤ length t → ys ≡ stored 0 bs (take (length t - at) (drop at t)) → putMid at (length t - at) t ys ≡ stored at bs t
+unfolding stored
+stored-part at bs t ys l e =
+    let n : length (drop at t) ≤ length t - at = simp length-drop (omega arith) in
+    rw (
+      e,
+      take-all (length t - at) (drop at t) n,
+      drop-of-length-le (drop at t) {i = length t - at} n,
+      append-nil,
+      zero-add,
+      drop-drop,
+    )
 
 -- the stores of a header
 pub header-stored : (h : Head) (t a b c d e f : List ℕ) → 17 ≤ length t → h .mode .0 < 256 → h .users .0 < 256
@@ -42,3 +60,99 @@ header-stored h t a b c d e f l m u ea eb ec ed ee ef =
     let e′ = stored-behind 13 _ (bytesOf 2 (h .«outer_vertices» .0)) t d e refl (omega arith) d′ ee in
     let f′ = stored-behind 15 _ (bytesOf 2 (h .«outer_tokens» .0)) t e f refl (omega arith) e′ ef in
     f′ ∙ rw (mod-eq-of-lt m, mod-eq-of-lt u)
+
+-- ---- where the sections start
+
+pub start-first : (h : Head) → 17 ≡ start h 0
+unfolding start total
+start-first h = refl
+
+-- from one start to the next
+pub record Cuts (h : Head) (a b c d : ℕ) : Type 0 where
+  pub innerVertices : a ≡ 17 + h .«inner_vertices» .0 * 8
+  pub innerTokens : b ≡ a + h .«inner_tokens» .0 * 5
+  pub outerVertices : c ≡ b + h .«outer_vertices» .0 * 8
+  pub outerTokens : d ≡ c + h .«outer_tokens» .0 * 4
+  pub resources : start h 5 ≡ d + h .resources .0 * 12
+
+pub cuts : (h : Head) (a b c d : ℕ) → a ≡ start h 1 → b ≡ start h 2 → c ≡ start h 3 → d ≡ start h 4 → Cuts h a b c d
+unfolding start total counts
+cuts h a b c d ea eb ec ed = record {
+  innerVertices = omega arith;
+  innerTokens = omega arith;
+  outerVertices = omega arith;
+  outerTokens = omega arith;
+  resources = omega arith;
+}
+
+-- a section is what lies between its start and the next one's
+pub section-cut : (bs : List ℕ) (k a b : ℕ) → a ≡ start (headIn bs) k → b ≡ start (headIn bs) (suc k) → take (b - a) (drop a bs) ≡ section bs k
+unfolding section
+section-cut bs k a b ea eb =
+    let n : b - a ≡ getD (counts (headIn bs)) k 0 * getD widths k 0 = omega (arith, start-next (headIn bs) k) in
+    rw (n, ea)
+
+-- ---- loading
+
+-- tables with a book's sections stored in them hold the book that was read
+pub loaded : (bs : List ℕ) (h : Head) (t u : Tables) (a b c d : ℕ) → Loadable bs h t → Bytes bs
+    → a ≡ start h 1 → b ≡ start h 2 → c ≡ start h 3 → d ≡ start h 4
+    → u .innerVertices ≡ stored 0 (take (a - 17) (drop 17 bs)) (t .innerVertices)
+    → u .innerTokens ≡ stored 0 (take (b - a) (drop a bs)) (t .innerTokens)
+    → u .outerVertices ≡ stored 0 (take (c - b) (drop b bs)) (t .outerVertices)
+    → u .outerTokens ≡ stored 0 (take (d - c) (drop c bs)) (t .outerTokens)
+    → u .resources ≡ stored 0 (take (length bs - d) (drop d bs)) (t .resources)
+    → u ≡ laid (read bs) t
+unfolding laid
+loaded bs h t u a b c d p byte ea eb ec ed iv it ov ot rs =
+    let at : (k : ℕ) → start h k ≡ start (headIn bs) k = λ k. ap (λ (x : Head). start x k) (p .head) in
+    (λ i.
+    tables
+    ((iv ∙ ap (λ (z : List ℕ). stored 0 z (t .innerVertices)) (section-cut bs 0 17 a (start-first (headIn bs)) (ea ∙ at 1))) i)
+    ((it ∙ ap (λ (z : List ℕ). stored 0 z (t .innerTokens)) (section-cut bs 1 a b (ea ∙ at 1) (eb ∙ at 2))) i)
+    ((ov ∙ ap (λ (z : List ℕ). stored 0 z (t .outerVertices)) (section-cut bs 2 b c (eb ∙ at 2) (ec ∙ at 3))) i)
+    ((ot ∙ ap (λ (z : List ℕ). stored 0 z (t .outerTokens)) (section-cut bs 3 c d (ec ∙ at 3) (ed ∙ at 4))) i)
+    ((rs ∙ ap (λ (z : List ℕ). stored 0 z (t .resources)) (section-cut bs 4 d (length bs) (ed ∙ at 4) (p .exact ∙ at 5))) i))
+    ∙ ap lay (sym (sections-read bs byte (p .exact ∙ at 5)))
+  where
+    lay : List (List ℕ) → Tables
+    lay ps =
+        tables
+        (stored 0 (getD ps 0 []) (t .innerVertices))
+        (stored 0 (getD ps 1 []) (t .innerTokens))
+        (stored 0 (getD ps 2 []) (t .outerVertices))
+        (stored 0 (getD ps 3 []) (t .outerTokens))
+        (stored 0 (getD ps 4 []) (t .resources))
+
+-- ---- saving
+
+-- the first n bytes of a table, put behind what is there already
+behind : (k m n : ℕ) (a s t u v : List ℕ) → m ≡ k + n → length a ≡ k → m ≤ length t → n ≤ length s
+    → u ≡ stored 0 a t → v ≡ stored k (take (m - k) s) u
+    → (length (a ++ take n s) ≡ m) × (v ≡ stored 0 (a ++ take n s) t)
+behind k m n a s t u v e la lt ls p q =
+    let d : m - k ≡ n = omega arith in
+    let ln : length (take n s) ≡ n = length-take-le n s ls in
+    (simp length-append (omega arith), stored-behind k a (take n s) t u v la (omega arith) p (q ∙ ap (λ (i : ℕ). stored k (take i s) u) d))
+
+-- header and sections, one behind the other, are what is written of the book in the tables
+pub saved : (h : Head) (t : Tables) (buffer b₀ b₁ b₂ b₃ b₄ b₅ : List ℕ) (a b c d e : ℕ) → Savable h t buffer → TableBytes t → Cuts h a b c d → e ≡ start h 5
+    → b₀ ≡ stored 0 (header h) buffer
+    → b₁ ≡ stored 17 (take (a - 17) (t .innerVertices)) b₀
+    → b₂ ≡ stored a (take (b - a) (t .innerTokens)) b₁
+    → b₃ ≡ stored b (take (c - b) (t .outerVertices)) b₂
+    → b₄ ≡ stored c (take (d - c) (t .outerTokens)) b₃
+    → b₅ ≡ stored d (take (e - d) (t .resources)) b₄
+    → b₅ ≡ stored 0 (write (bookIn h t)) buffer
+unfolding write
+saved h t buffer b₀ b₁ b₂ b₃ b₄ b₅ a b c d e p byte at end e₀ e₁ e₂ e₃ e₄ e₅ =
+    let r = p .room in
+    let (l₁, p₁) = behind 17 a _ (header h) (t .innerVertices) buffer b₀ b₁ (at .innerVertices) (length-header h) (omega arith) (r .innerVertices) e₀ e₁ in
+    let (l₂, p₂) = behind a b _ _ (t .innerTokens) buffer b₁ b₂ (at .innerTokens) l₁ (omega arith) (r .innerTokens) p₁ e₂ in
+    let (l₃, p₃) = behind b c _ _ (t .outerVertices) buffer b₂ b₃ (at .outerVertices) l₂ (omega arith) (r .outerVertices) p₂ e₃ in
+    let (l₄, p₄) = behind c d _ _ (t .outerTokens) buffer b₃ b₄ (at .outerTokens) l₃ (omega arith) (r .outerTokens) p₃ e₄ in
+    let (l₅, p₅) = behind d e _ _ (t .resources) buffer b₄ b₅ (end ∙ at .resources) l₄ (omega arith) (r .resources) p₄ e₅ in
+    p₅ ∙ sym (ap₂ (λ (k : Head) (ps : List (List ℕ)). stored 0 (joint k ps) buffer) (head-in h t) (sections-in h t r byte))
+  where
+    joint : Head → List (List ℕ) → List ℕ
+    joint k ps = header k ++ getD ps 0 [] ++ getD ps 1 [] ++ getD ps 2 [] ++ getD ps 3 [] ++ getD ps 4 []

@@ -120,6 +120,14 @@ fn load(
     copy(&bytes[d..], rs);
 }
 
+// The first n bytes of a table into a buffer, from `at` on.
+fn put(table: &[u8], n: usize, buffer: &mut [u8], at: usize)
+    requires { ⌜ (n ≤ length (now table)) × (at + n ≤ length (now buffer)) ⌝ }
+    ensures { λ _. ⌜ now (buffer .exit) ≡ stored at (take n (now (table .entry))) (now (buffer .entry)) ⌝ }
+{
+    copy(&table[..n], &mut buffer[at..]);
+}
+
 // Header and sections, one after the other.
 fn save(h: Head, iv: &[u8], it: &[u8], ov: &[u8], ot: &[u8], rs: &[u8], buffer: &mut [u8])
     requires { ⌜ Savable h (tables (now iv) (now it) (now ov) (now ot) (now rs)) (now buffer) ⌝ }
@@ -130,10 +138,9 @@ fn save(h: Head, iv: &[u8], it: &[u8], ov: &[u8], ot: &[u8], rs: &[u8], buffer: 
     let b = start_of(h, 2);
     let c = start_of(h, 3);
     let d = start_of(h, 4);
-    copy(&iv[0..a - 17], &mut buffer[17..]);
-    copy(&it[0..b - a], &mut buffer[a..]);
-    copy(&ov[0..c - b], &mut buffer[b..]);
-    copy(&ot[0..d - c], &mut buffer[c..]);
-    let e = h.resources.0 as usize * 12;
-    copy(&rs[0..e], &mut buffer[d..]);
+    put(iv, a - 17, buffer, 17);
+    put(it, b - a, buffer, a);
+    put(ov, c - b, buffer, b);
+    put(ot, d - c, buffer, c);
+    put(rs, start_of(h, 5) - d, buffer, d);
 }

@@ -36,7 +36,7 @@ header-fields : (h : Head) → header h ≡ fields headWidths (headNumbers h)
 unfolding header bytesOf
 header-fields h = refl
 
-length-header : (h : Head) → length (header h) ≡ 17
+pub length-header : (h : Head) → length (header h) ≡ 17
 unfolding header bytesOf
 length-header h = refl
 
@@ -259,12 +259,16 @@ module _ (bs : List ℕ) (byte : Bytes bs) (exact : length bs ≡ start (headIn 
   }
 
   -- the sections of the book that was read are those of its bytes
-  sections-read : sectionsOf (read bs) ≡ parts (headIn bs) bs
+  pub sections-read : sectionsOf (read bs) ≡ section bs 0 ∷ section bs 1 ∷ section bs 2 ∷ section bs 3 ∷ section bs 4 ∷ []
   unfolding read sections counts
-  sections-read = sections-in (headIn bs) (sections bs) room held ∙ (λ i. part 0 i ∷ part 1 i ∷ part 2 i ∷ part 3 i ∷ part 4 i ∷ [])
+  sections-read = sections-in (headIn bs) (sections bs) room held ∙ (λ i. whole 0 i ∷ whole 1 i ∷ whole 2 i ∷ whole 3 i ∷ whole 4 i ∷ [])
     where
-      part : (k : ℕ) → take (getD size k 0) (section bs k) ≡ getD (parts (headIn bs) bs) k []
-      part k = take-all (getD size k 0) (section bs k) (omega (arith, section-length bs exact k, size-at (counts (headIn bs)) widths k)) ∙ section-part bs k
+      whole : (k : ℕ) → take (getD size k 0) (section bs k) ≡ section bs k
+      whole k = take-all (getD size k 0) (section bs k) (omega (arith, section-length bs exact k, size-at (counts (headIn bs)) widths k))
+
+  sections-parts : sectionsOf (read bs) ≡ parts (headIn bs) bs
+  unfolding counts
+  sections-parts = sections-read ∙ (λ i. section-part bs 0 i ∷ section-part bs 1 i ∷ section-part bs 2 i ∷ section-part bs 3 i ∷ section-part bs 4 i ∷ [])
 
   header-read : cell 3 0 bs ≡ 0x424B54 → cell 2 3 bs ≡ 1 → header (headIn bs) ≡ take 17 bs
   unfolding headIn start
@@ -276,7 +280,7 @@ module _ (bs : List ℕ) (byte : Bytes bs) (exact : length bs ≡ start (headIn 
   write-back mark version =
       write-joined (read bs)
       ∙ ap₂ (λ (x y : List ℕ). x ++ y) (ap header (head-read bs) ∙ header-read mark version)
-      (ap joined sections-read ∙ joined-stretches size (drop 17 bs) ∙ take-all (sum size) (drop 17 bs) (omega (arith, behind)))
+      (ap joined sections-parts ∙ joined-stretches size (drop 17 bs) ∙ take-all (sum size) (drop 17 bs) (omega (arith, behind)))
       ∙ take-append-drop 17 bs
 
 -- every byte string that can be read is written back byte for byte

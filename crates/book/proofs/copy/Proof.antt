@@ -1,6 +1,6 @@
 -- `book::copy` meets its contract. The invariant: the bytes passed are those of `from`, and the rest are as they were. Assumes nothing.
 use Prim.Native.Nat.{_≤_, _-_}
-use mathlib.Core.Path.{_≡_, refl, ap, _∙_}
+use mathlib.Core.Path.{_≡_, refl, _∙_}
 use mathlib.Core.List.{_++_}
 use native.Mathlib.Nat.{zero-add}
 use native.Mathlib.Numerals.{add-one}
@@ -10,8 +10,6 @@ use lib.Seq.{paste-suc, take-length}
 use Rattle.rows.specs.Number.{stored}
 use Rattle.book.proofs.copy.Statement.{statement}
 use Rattle.book.proofs.copy.Tie as tie
-use Rattle.book.proofs.copy.Reads as reads
-use Rattle.book.proofs.copy.Lts as lts
 
 abbrev Inv-loop : tie.InvT-loop
 Inv-loop from to₀ i₀ to i = (i ≤ length from) × (to ≡ take i from ++ drop i to₀)

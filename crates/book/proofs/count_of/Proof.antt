@@ -6,8 +6,6 @@ use lib.ListN.{List·getD-eq-default}
 use Rattle.rules.specs.Bytes.{counts}
 use Rattle.book.proofs.count_of.Statement.{statement}
 use Rattle.book.proofs.count_of.Tie as tie
-use Rattle.book.proofs.count_of.Reads as reads
-use Rattle.book.proofs.count_of.Lts as lts
 
 cast-result : tie.Need-cast-result
 cast-result c = search needs

@@ -9,9 +9,6 @@ use Rattle.rules.specs.Bytes.{head, headIn}
 use borrow.Author.Needs.{needs}
 use Rattle.book.proofs.head_in.Statement.{statement}
 use Rattle.book.proofs.head_in.Tie as tie
-use Rattle.book.proofs.head_in.Reads as reads
-use Rattle.book.proofs.head_in.Lts as lts
-use Rattle.rows.proofs.get2.Reads as get2-reads
 
 shared-slice-read-t10 : tie.Need-shared-slice-read-t10
 shared-slice-read-t10 c = search needs

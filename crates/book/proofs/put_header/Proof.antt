@@ -6,9 +6,6 @@ use Rattle.book.proofs.Laws.{header-stored}
 use borrow.Author.Needs.{needs}
 use Rattle.book.proofs.put_header.Statement.{statement}
 use Rattle.book.proofs.put_header.Tie as tie
-use Rattle.book.proofs.put_header.Reads as reads
-use Rattle.book.proofs.put_header.Lts as lts
-use Rattle.rows.proofs.put2.Reads as put2-reads
 
 -- the buffer keeps its length
 kept : (c : tie.After-put2) → length (c .put2 .last .0) ≡ length (c .before .before .before .args .buffer .now)
@@ -72,7 +69,7 @@ same-length : tie.Need-same-length
 same-length c = kept6 (c .before .before)
 
 returns : tie.Need-returns
-returns c = 
+returns c =
     let s = c .before .before .before .before .before .before .before .before .before .before .before .before .before .before .before .before .before .before .before .before .before .before .before .before .before .before .before in
     header-stored (s .args .h) (s .args .buffer .now) _ _ _ _ _ _ (s .pre .0) (s .pre .1) (s .pre .2)
     (c .before .before .before .before .before .before .before .before .before .before .before .before .before .before .before .before .before .before .before .before .before .before .before .before .put2 .ensures)

@@ -1,203 +1,110 @@
+-- `book::save` meets its contract. Assumes nothing.
+use mathlib.Core.Path.{_≡_, _∙_}
+use native.Mathlib.Omega.{arith}
+use lib.ListN.{length}
+use Rattle.rules.specs.Bytes.{start, tables}
+use Rattle.book.proofs.Laws.{Cuts, cuts, saved}
 use borrow.Author.Needs.{needs}
 use Rattle.book.proofs.save.Statement.{statement}
 use Rattle.book.proofs.save.Tie as tie
-use Rattle.book.proofs.save.Reads as reads
-use Rattle.book.proofs.save.Lts as lts
-use Rattle.book.proofs.copy.Reads as copy-reads
-use Rattle.book.proofs.put_header.Reads as put-header-reads
-use Rattle.book.proofs.start_of.Reads as start-of-reads
 
--- src/lib.rt:128:5
+-- the starts in their order
+marks : (c : tie.After-start-of4) → Cuts (c .before .before .before .before .before .before .before .before .before .before .before .before .before .before .args .h) (c .before .before .before .start-of .result) (c .before .before .start-of2 .result) (c .before .start-of3 .result) (c .start-of4 .result)
+marks c =
+    cuts (c .before .before .before .before .before .before .before .before .before .before .before .before .before .before .args .h) _ _ _ _ (c .before .before .before .start-of .ensures) (c .before .before .start-of2 .ensures) (c .before .start-of3 .ensures) (c .start-of4 .ensures)
+
+-- the buffer keeps its length
+kept : (c : tie.After-put-header) → length (c .put-header .last .0) ≡ length (c .before .before .before .before .before .before .before .before .args .buffer .now)
+kept c = c .put-header .kept .0
+
+kept1 : (c : tie.After-put) → length (c .put .last .1 .1 .0) ≡ length (c .before .before .before .before .before .before .before .before .before .before .before .before .before .before .before .before .args .buffer .now)
+kept1 c = c .put .kept .1 .1 .0 ∙ kept (c .before .before .before .before .before .before .before .before)
+
+kept2 : (c : tie.After-put2) → length (c .put2 .last .1 .1 .0) ≡ length (c .before .before .before .before .before .before .before .before .before .before .before .before .before .before .before .before .before .before .before .before .args .buffer .now)
+kept2 c = c .put2 .kept .1 .1 .0 ∙ kept1 (c .before .before .before .before)
+
+kept3 : (c : tie.After-put3) → length (c .put3 .last .1 .1 .0) ≡ length (c .before .before .before .before .before .before .before .before .before .before .before .before .before .before .before .before .before .before .before .before .before .before .before .before .args .buffer .now)
+kept3 c = c .put3 .kept .1 .1 .0 ∙ kept2 (c .before .before .before .before)
+
+kept4 : (c : tie.After-put4) → length (c .put4 .last .1 .1 .0) ≡ length (c .before .before .before .before .before .before .before .before .before .before .before .before .before .before .before .before .before .before .before .before .before .before .before .before .before .before .before .before .args .buffer .now)
+kept4 c = c .put4 .kept .1 .1 .0 ∙ kept3 (c .before .before .before .before)
+
 put-header-requires : tie.Need-put-header-requires
-put-header-requires c κs = ?
+unfolding start
+put-header-requires c κs = omega (arith, c .before .before .before .before .before .before .before .pre)
 
--- src/lib.rt:129:9
 start-of-requires : tie.Need-start-of-requires
 start-of-requires c κs = search needs
 
--- src/lib.rt:130:9
 start-of-requires-2 : tie.Need-start-of-requires-2
 start-of-requires-2 c κs = search needs
 
--- src/lib.rt:131:9
 start-of-requires-3 : tie.Need-start-of-requires-3
 start-of-requires-3 c κs = search needs
 
--- src/lib.rt:132:9
 start-of-requires-4 : tie.Need-start-of-requires-4
 start-of-requires-4 c κs = search needs
 
--- src/lib.rt:133:17
-sub-copy : tie.Need-sub-copy
-sub-copy c = ?
+sub-put : tie.Need-sub-put
+sub-put c = omega (arith, marks c)
 
--- src/lib.rt:133:10
-sub-copy-2 : tie.Need-sub-copy-2
-sub-copy-2 c = search needs
+put-requires : tie.Need-put-requires
+put-requires c κs = omega (arith, marks (c .before), kept (c .before .before .before .before .before .before .before), c .before .before .before .before .before .before .before .before .before .before .before .before .before .before .before .pre)
 
--- src/lib.rt:133:10
-part-copy-start : tie.Need-part-copy-start
-part-copy-start c = search needs
+sub-put-2 : tie.Need-sub-put-2
+sub-put-2 c = omega (arith, marks (c .before .before .before .before))
 
--- src/lib.rt:133:10
-part-copy-end : tie.Need-part-copy-end
-part-copy-end c = ?
+put-requires-2 : tie.Need-put-requires-2
+put-requires-2 c κs = omega (arith, marks (c .before .before .before .before .before), kept1 (c .before .before .before), c .before .before .before .before .before .before .before .before .before .before .before .before .before .before .before .before .before .before .before .pre)
 
--- src/lib.rt:133:26
-sub-copy-3 : tie.Need-sub-copy-3
-sub-copy-3 c = ?
+sub-put-3 : tie.Need-sub-put-3
+sub-put-3 c = omega (arith, marks (c .before .before .before .before .before .before .before .before))
 
--- src/lib.rt:133:26
-part-copy-start-2 : tie.Need-part-copy-start-2
-part-copy-start-2 c = ?
+put-requires-3 : tie.Need-put-requires-3
+put-requires-3 c κs = omega (arith, marks (c .before .before .before .before .before .before .before .before .before), kept2 (c .before .before .before), c .before .before .before .before .before .before .before .before .before .before .before .before .before .before .before .before .before .before .before .before .before .before .before .pre)
 
--- src/lib.rt:133:26
-part-copy-end-2 : tie.Need-part-copy-end-2
-part-copy-end-2 c = search needs
+sub-put-4 : tie.Need-sub-put-4
+sub-put-4 c = omega (arith, marks (c .before .before .before .before .before .before .before .before .before .before .before .before))
 
--- src/lib.rt:133:5
-copy-requires : tie.Need-copy-requires
-copy-requires c κs = ?
+put-requires-4 : tie.Need-put-requires-4
+put-requires-4 c κs = omega (arith, marks (c .before .before .before .before .before .before .before .before .before .before .before .before .before), kept3 (c .before .before .before), c .before .before .before .before .before .before .before .before .before .before .before .before .before .before .before .before .before .before .before .before .before .before .before .before .before .before .before .pre)
 
--- src/lib.rt:134:17
-sub-copy-4 : tie.Need-sub-copy-4
-sub-copy-4 c = ?
+start-of-requires-5 : tie.Need-start-of-requires-5
+start-of-requires-5 c κs = search needs
 
--- src/lib.rt:134:10
-sub-copy-5 : tie.Need-sub-copy-5
-sub-copy-5 c = search needs
+sub-put-5 : tie.Need-sub-put-5
+sub-put-5 c = omega (arith, marks (c .before .before .before .before .before .before .before .before .before .before .before .before .before .before .before .before .before), c .start-of5 .ensures)
 
--- src/lib.rt:134:10
-part-copy-start-3 : tie.Need-part-copy-start-3
-part-copy-start-3 c = search needs
+put-requires-5 : tie.Need-put-requires-5
+put-requires-5 c κs = omega (arith, marks (c .before .before .before .before .before .before .before .before .before .before .before .before .before .before .before .before .before .before), kept4 (c .before .before .before .before), c .before .before .before .before .before .before .before .before .before .before .before .before .before .before .before .before .before .before .before .before .before .before .before .before .before .before .before .before .before .before .before .before .pre, c .before .start-of5 .ensures)
 
--- src/lib.rt:134:10
-part-copy-end-3 : tie.Need-part-copy-end-3
-part-copy-end-3 c = ?
-
--- src/lib.rt:134:25
-sub-copy-6 : tie.Need-sub-copy-6
-sub-copy-6 c = ?
-
--- src/lib.rt:134:25
-part-copy-start-4 : tie.Need-part-copy-start-4
-part-copy-start-4 c = ?
-
--- src/lib.rt:134:25
-part-copy-end-4 : tie.Need-part-copy-end-4
-part-copy-end-4 c = search needs
-
--- src/lib.rt:134:5
-copy-requires-2 : tie.Need-copy-requires-2
-copy-requires-2 c κs = ?
-
--- src/lib.rt:135:17
-sub-copy-7 : tie.Need-sub-copy-7
-sub-copy-7 c = ?
-
--- src/lib.rt:135:10
-sub-copy-8 : tie.Need-sub-copy-8
-sub-copy-8 c = search needs
-
--- src/lib.rt:135:10
-part-copy-start-5 : tie.Need-part-copy-start-5
-part-copy-start-5 c = search needs
-
--- src/lib.rt:135:10
-part-copy-end-5 : tie.Need-part-copy-end-5
-part-copy-end-5 c = ?
-
--- src/lib.rt:135:25
-sub-copy-9 : tie.Need-sub-copy-9
-sub-copy-9 c = ?
-
--- src/lib.rt:135:25
-part-copy-start-6 : tie.Need-part-copy-start-6
-part-copy-start-6 c = ?
-
--- src/lib.rt:135:25
-part-copy-end-6 : tie.Need-part-copy-end-6
-part-copy-end-6 c = search needs
-
--- src/lib.rt:135:5
-copy-requires-3 : tie.Need-copy-requires-3
-copy-requires-3 c κs = ?
-
--- src/lib.rt:136:17
-sub-copy-10 : tie.Need-sub-copy-10
-sub-copy-10 c = ?
-
--- src/lib.rt:136:10
-sub-copy-11 : tie.Need-sub-copy-11
-sub-copy-11 c = search needs
-
--- src/lib.rt:136:10
-part-copy-start-7 : tie.Need-part-copy-start-7
-part-copy-start-7 c = search needs
-
--- src/lib.rt:136:10
-part-copy-end-7 : tie.Need-part-copy-end-7
-part-copy-end-7 c = ?
-
--- src/lib.rt:136:25
-sub-copy-12 : tie.Need-sub-copy-12
-sub-copy-12 c = ?
-
--- src/lib.rt:136:25
-part-copy-start-8 : tie.Need-part-copy-start-8
-part-copy-start-8 c = ?
-
--- src/lib.rt:136:25
-part-copy-end-8 : tie.Need-part-copy-end-8
-part-copy-end-8 c = search needs
-
--- src/lib.rt:136:5
-copy-requires-4 : tie.Need-copy-requires-4
-copy-requires-4 c κs = ?
-
--- src/lib.rt:137:13
-cast-e : tie.Need-cast-e
-cast-e c = ?
-
--- src/lib.rt:137:13
-mul-e : tie.Need-mul-e
-mul-e c = ?
-
--- src/lib.rt:138:10
-sub-copy-13 : tie.Need-sub-copy-13
-sub-copy-13 c = search needs
-
--- src/lib.rt:138:10
-part-copy-start-9 : tie.Need-part-copy-start-9
-part-copy-start-9 c = search needs
-
--- src/lib.rt:138:10
-part-copy-end-9 : tie.Need-part-copy-end-9
-part-copy-end-9 c = ?
-
--- src/lib.rt:138:21
-sub-copy-14 : tie.Need-sub-copy-14
-sub-copy-14 c = ?
-
--- src/lib.rt:138:21
-part-copy-start-10 : tie.Need-part-copy-start-10
-part-copy-start-10 c = ?
-
--- src/lib.rt:138:21
-part-copy-end-10 : tie.Need-part-copy-end-10
-part-copy-end-10 c = search needs
-
--- src/lib.rt:138:5
-copy-requires-5 : tie.Need-copy-requires-5
-copy-requires-5 c κs = ?
-
--- src/lib.rt:124:1
 same-length : tie.Need-same-length
-same-length c = ?
+same-length c = search needs
 
--- src/lib.rt:124:1
 returns : tie.Need-returns
-returns c = ?
+returns c =
+    let s = c .before .before .before .before .before .before .before .before .before .before .before .before .before .before .before .before .before .before .before .before .before .before .before .before .before .before .before .before .before .before .before .before .before .before .before in
+    let e = c .before .before .before .before .before .before .before .before .before .before .before .before .before .before .before .before .before .before .before .before .before in
+    saved (s .args .h) (tables (s .args .iv .now) (s .args .it .now) (s .args .ov .now) (s .args .ot .now) (s .args .rs .now)) (s .args .buffer .now) _ _ _ _ _ _
+    (e .before .before .before .start-of .result) (e .before .before .start-of2 .result) (e .before .start-of3 .result) (e .start-of4 .result) (c .before .before .before .before .start-of5 .result)
+    (s .pre)
+    (
+    record {
+      innerVertices = λ i. c .before .before .before .before .before .before .before .before .before .before .before .before .before .before .before .before .before .before .before .before .before .before .before .before .before .before .before .before .before .before .before .before .before .before .shared-slice-known .given i .fits;
+      innerTokens = λ i. c .before .before .before .before .before .before .before .before .before .before .before .before .before .before .before .before .before .before .before .before .before .before .before .before .before .before .before .before .before .before .before .before .before .shared-slice-known2 .given i .fits;
+      outerVertices = λ i. c .before .before .before .before .before .before .before .before .before .before .before .before .before .before .before .before .before .before .before .before .before .before .before .before .before .before .before .before .before .before .before .before .shared-slice-known3 .given i .fits;
+      outerTokens = λ i. c .before .before .before .before .before .before .before .before .before .before .before .before .before .before .before .before .before .before .before .before .before .before .before .before .before .before .before .before .before .before .before .shared-slice-known4 .given i .fits;
+      resources = λ i. c .before .before .before .before .before .before .before .before .before .before .before .before .before .before .before .before .before .before .before .before .before .before .before .before .before .before .before .before .before .before .shared-slice-known5 .given i .fits;
+    }
+    )
+    (marks e)
+    (c .before .before .before .before .start-of5 .ensures)
+    (c .before .before .before .before .before .before .before .before .before .before .before .before .before .before .before .before .before .before .before .before .before .before .before .before .before .before .before .put-header .ensures)
+    (c .before .before .before .before .before .before .before .before .before .before .before .before .before .before .before .before .before .before .before .put .ensures)
+    (c .before .before .before .before .before .before .before .before .before .before .before .before .before .before .before .put2 .ensures)
+    (c .before .before .before .before .before .before .before .before .before .before .before .put3 .ensures)
+    (c .before .before .before .before .before .before .before .put4 .ensures)
+    (c .before .before .put5 .ensures)
 
 pub save-spec : {M : Type 1} → statement M
 save-spec =
@@ -208,46 +115,16 @@ save-spec =
     start-of-requires-2
     start-of-requires-3
     start-of-requires-4
-    sub-copy
-    sub-copy-2
-    part-copy-start
-    part-copy-end
-    sub-copy-3
-    part-copy-start-2
-    part-copy-end-2
-    copy-requires
-    sub-copy-4
-    sub-copy-5
-    part-copy-start-3
-    part-copy-end-3
-    sub-copy-6
-    part-copy-start-4
-    part-copy-end-4
-    copy-requires-2
-    sub-copy-7
-    sub-copy-8
-    part-copy-start-5
-    part-copy-end-5
-    sub-copy-9
-    part-copy-start-6
-    part-copy-end-6
-    copy-requires-3
-    sub-copy-10
-    sub-copy-11
-    part-copy-start-7
-    part-copy-end-7
-    sub-copy-12
-    part-copy-start-8
-    part-copy-end-8
-    copy-requires-4
-    cast-e
-    mul-e
-    sub-copy-13
-    part-copy-start-9
-    part-copy-end-9
-    sub-copy-14
-    part-copy-start-10
-    part-copy-end-10
-    copy-requires-5
+    sub-put
+    put-requires
+    sub-put-2
+    put-requires-2
+    sub-put-3
+    put-requires-3
+    sub-put-4
+    put-requires-4
+    start-of-requires-5
+    sub-put-5
+    put-requires-5
     same-length
     returns)

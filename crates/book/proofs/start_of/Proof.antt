@@ -1,6 +1,6 @@
 -- `book::start_of` meets its contract. The invariant: `at` is where section `i` starts. Assumes nothing.
 use Prim.Native.Nat.{_+_, _*_, _≤_, _<_, _-_}
-use mathlib.Core.Path.{_≡_, refl, sym, ap}
+use mathlib.Core.Path.{_≡_, refl, sym}
 use native.Mathlib.Numerals.{add-one}
 use native.Mathlib.Omega.{arith}
 use lib.ListN.{getD}
@@ -8,9 +8,6 @@ use Rattle.rules.specs.Bytes.{widths, counts, total, start}
 use Rattle.rules.proofs.WriteLaws.{start-next, start-le}
 use Rattle.book.proofs.start_of.Statement.{statement}
 use Rattle.book.proofs.start_of.Tie as tie
-use Rattle.book.proofs.start_of.Reads as reads
-use Rattle.book.proofs.start_of.Lts as lts
-use Rattle.book.proofs.count_of.Reads as count-of-reads
 
 abbrev Inv-loop : tie.InvT-loop
 Inv-loop h k at₀ i₀ at i = (i ≤ k) × (at ≡ start h i)
