@@ -1,6 +1,6 @@
 -- The book's bytes as code reads and writes them: sections cut out of them, and stores one behind the other. Assumes nothing.
 use Prim.Native.Nat.{ℕ, suc, _+_, _*_, _-_, _≤_, _<_}
-use mathlib.Core.Path.{_≡_, refl, sym, ap, ap₂, _∙_}
+use mathlib.Core.Path.{_≡_, refl, sym, ap, ap₂, subst, _∙_}
 use mathlib.Core.List.{List, [], _∷_, _++_, append-nil}
 use native.Mathlib.Nat.{mod-eq-of-lt, zero-add}
 use native.Mathlib.Omega.{arith}
@@ -9,7 +9,7 @@ use lib.Seq.{sets, take-all, length-take-le, drop-drop}
 use borrow.Rule.Slice.PartMut.{putMid}
 use Rattle.rows.specs.Number.{bytesOf, stored}
 use Rattle.rows.proofs.Laws.{stored-add, stored-sets, length-stored}
-use Rattle.rules.specs.Bytes.{Bytes, widths, Tables, tables, header, headIn, counts, total, start, section, read, laid, bookIn, write}
+use Rattle.rules.specs.Bytes.{Bytes, widths, Tables, tables, header, headIn, counts, total, start, section, sections, read, laid, bookIn, write}
 use Rattle.rules.specs.declared.Head.{Head}
 use Rattle.rules.proofs.ByteLaws.{TableBytes, head-in, sections-in}
 use Rattle.rules.proofs.WriteLaws.{length-header, start-next, sections-read}
@@ -63,10 +63,6 @@ header-stored h t a b c d e f l m u ea eb ec ed ee ef =
 
 -- ---- where the sections start
 
-pub start-first : (h : Head) → 17 ≡ start h 0
-unfolding start total
-start-first h = refl
-
 -- from one start to the next
 pub record Cuts (h : Head) (a b c d : ℕ) : Type 0 where
   pub innerVertices : a ≡ 17 + h .«inner_vertices» .0 * 8
@@ -92,37 +88,51 @@ section-cut bs k a b ea eb =
     let n : b - a ≡ getD (counts (headIn bs)) k 0 * getD widths k 0 = omega (arith, start-next (headIn bs) k) in
     rw (n, ea)
 
+-- the stretches between the starts
+abbrev pub parts : List ℕ → ℕ → ℕ → ℕ → ℕ → Tables
+parts bs a b c d =
+    tables (take (a - 17) (drop 17 bs)) (take (b - a) (drop a bs)) (take (c - b) (drop b bs)) (take (d - c) (drop c bs)) (take (length bs - d) (drop d bs))
+
+pub sections-cut : (bs : List ℕ) (a b c d : ℕ) → length bs ≡ start (headIn bs) 5 → Cuts (headIn bs) a b c d → parts bs a b c d ≡ sections bs
+unfolding sections start total counts
+sections-cut bs a b c d exact cut =
+    let ea : a ≡ start (headIn bs) 1 = omega arith in
+    let eb : b ≡ start (headIn bs) 2 = omega arith in
+    let ec : c ≡ start (headIn bs) 3 = omega arith in
+    let ed : d ≡ start (headIn bs) 4 = omega arith in
+    λ i.
+    tables
+    (section-cut bs 0 17 a refl ea i)
+    (section-cut bs 1 a b ea eb i)
+    (section-cut bs 2 b c eb ec i)
+    (section-cut bs 3 c d ec ed i)
+    (section-cut bs 4 d (length bs) ed exact i)
+
 -- ---- loading
 
--- tables with a book's sections stored in them hold the book that was read
-pub loaded : (bs : List ℕ) (h : Head) (t u : Tables) (a b c d : ℕ) → Loadable bs h t → Bytes bs
-    → a ≡ start h 1 → b ≡ start h 2 → c ≡ start h 3 → d ≡ start h 4
-    → u .innerVertices ≡ stored 0 (take (a - 17) (drop 17 bs)) (t .innerVertices)
-    → u .innerTokens ≡ stored 0 (take (b - a) (drop a bs)) (t .innerTokens)
-    → u .outerVertices ≡ stored 0 (take (c - b) (drop b bs)) (t .outerVertices)
-    → u .outerTokens ≡ stored 0 (take (d - c) (drop c bs)) (t .outerTokens)
-    → u .resources ≡ stored 0 (take (length bs - d) (drop d bs)) (t .resources)
+-- tables with the stretches stored in them hold the book that was read
+pub loaded : (bs : List ℕ) (h : Head) (t u : Tables) (a b c d : ℕ) → Loadable bs h t → Bytes bs → Cuts h a b c d
+    → u .innerVertices ≡ stored 0 (parts bs a b c d .innerVertices) (t .innerVertices)
+    → u .innerTokens ≡ stored 0 (parts bs a b c d .innerTokens) (t .innerTokens)
+    → u .outerVertices ≡ stored 0 (parts bs a b c d .outerVertices) (t .outerVertices)
+    → u .outerTokens ≡ stored 0 (parts bs a b c d .outerTokens) (t .outerTokens)
+    → u .resources ≡ stored 0 (parts bs a b c d .resources) (t .resources)
     → u ≡ laid (read bs) t
-unfolding laid
-loaded bs h t u a b c d p byte ea eb ec ed iv it ov ot rs =
-    let at : (k : ℕ) → start h k ≡ start (headIn bs) k = λ k. ap (λ (x : Head). start x k) (p .head) in
-    (λ i.
-    tables
-    ((iv ∙ ap (λ (z : List ℕ). stored 0 z (t .innerVertices)) (section-cut bs 0 17 a (start-first (headIn bs)) (ea ∙ at 1))) i)
-    ((it ∙ ap (λ (z : List ℕ). stored 0 z (t .innerTokens)) (section-cut bs 1 a b (ea ∙ at 1) (eb ∙ at 2))) i)
-    ((ov ∙ ap (λ (z : List ℕ). stored 0 z (t .outerVertices)) (section-cut bs 2 b c (eb ∙ at 2) (ec ∙ at 3))) i)
-    ((ot ∙ ap (λ (z : List ℕ). stored 0 z (t .outerTokens)) (section-cut bs 3 c d (ec ∙ at 3) (ed ∙ at 4))) i)
-    ((rs ∙ ap (λ (z : List ℕ). stored 0 z (t .resources)) (section-cut bs 4 d (length bs) (ed ∙ at 4) (p .exact ∙ at 5))) i))
-    ∙ ap lay (sym (sections-read bs byte (p .exact ∙ at 5)))
+unfolding laid sections
+loaded bs h t u a b c d p byte cut iv it ov ot rs =
+    let exact : length bs ≡ start (headIn bs) 5 = p .exact ∙ ap (λ (k : Head). start k 5) (p .head) in
+    (λ i. tables (iv i) (it i) (ov i) (ot i) (rs i))
+    ∙ ap lay (sections-cut bs a b c d exact (subst (λ (k : Head). Cuts k a b c d) (p .head) cut))
+    ∙ ap (λ (ps : List (List ℕ)). lay (tables (getD ps 0 []) (getD ps 1 []) (getD ps 2 []) (getD ps 3 []) (getD ps 4 []))) (sym (sections-read bs byte exact))
   where
-    lay : List (List ℕ) → Tables
-    lay ps =
+    lay : Tables → Tables
+    lay s =
         tables
-        (stored 0 (getD ps 0 []) (t .innerVertices))
-        (stored 0 (getD ps 1 []) (t .innerTokens))
-        (stored 0 (getD ps 2 []) (t .outerVertices))
-        (stored 0 (getD ps 3 []) (t .outerTokens))
-        (stored 0 (getD ps 4 []) (t .resources))
+        (stored 0 (s .innerVertices) (t .innerVertices))
+        (stored 0 (s .innerTokens) (t .innerTokens))
+        (stored 0 (s .outerVertices) (t .outerVertices))
+        (stored 0 (s .outerTokens) (t .outerTokens))
+        (stored 0 (s .resources) (t .resources))
 
 -- ---- saving
 

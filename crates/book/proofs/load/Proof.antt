@@ -137,11 +137,7 @@ returns c =
     let one = second two in
     let e = first one in
     let s = entry e in
-    loaded (s .args .bytes .now) (s .args .h) (within s) _ _ _ _ _ (s .pre) (λ i. e .before .before .before .before .before .before .before .before .before .shared-slice-known .given i .fits)
-    (e .before .before .before .start-of .ensures)
-    (e .before .before .start-of2 .ensures)
-    (e .before .start-of3 .ensures)
-    (e .start-of4 .ensures)
+    loaded (s .args .bytes .now) (s .args .h) (within s) _ _ _ _ _ (s .pre) (λ i. e .before .before .before .before .before .before .before .before .before .shared-slice-known .given i .fits) (held e .starts)
     (one .before .before .copy .ensures)
     (two .before .before .copy2 .ensures)
     (three .before .before .copy3 .ensures)
