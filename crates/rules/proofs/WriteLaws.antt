@@ -238,9 +238,9 @@ module _ (bs : List ℕ) (byte : Bytes bs) (exact : length bs ≡ start (headIn 
   bytes-section k =
       bytes-take (getD (counts (headIn bs)) k 0 * getD widths k 0) (drop (start (headIn bs) k) bs) (bytes-drop (start (headIn bs) k) bs byte)
 
-  pub sections-room : Room (headIn bs) (sections bs)
+  room : Room (headIn bs) (sections bs)
   unfolding sections counts
-  sections-room = record {
+  room = record {
     innerVertices = omega (arith, section-length bs exact 0);
     innerTokens = omega (arith, section-length bs exact 1);
     outerVertices = omega (arith, section-length bs exact 2);
@@ -261,7 +261,7 @@ module _ (bs : List ℕ) (byte : Bytes bs) (exact : length bs ≡ start (headIn 
   -- the sections of the book that was read are those of its bytes
   pub sections-read : sectionsOf (read bs) ≡ section bs 0 ∷ section bs 1 ∷ section bs 2 ∷ section bs 3 ∷ section bs 4 ∷ []
   unfolding read sections counts
-  sections-read = sections-in (headIn bs) (sections bs) sections-room held ∙ (λ i. whole 0 i ∷ whole 1 i ∷ whole 2 i ∷ whole 3 i ∷ whole 4 i ∷ [])
+  sections-read = sections-in (headIn bs) (sections bs) room held ∙ (λ i. whole 0 i ∷ whole 1 i ∷ whole 2 i ∷ whole 3 i ∷ whole 4 i ∷ [])
     where
       whole : (k : ℕ) → take (getD size k 0) (section bs k) ≡ section bs k
       whole k = take-all (getD size k 0) (section bs k) (omega (arith, section-length bs exact k, size-at (counts (headIn bs)) widths k))
