@@ -1,0 +1,146 @@
+// The book as bytes: sections, reading and writing. The five tables are iv, it, ov, ot, rs: inner vertices and tokens, outer vertices and tokens, resources.
+use rules::Head;
+use rules::InnerTokens;
+use rules::InnerVertices;
+use rules::Joined;
+use rules::Mode;
+use rules::OuterTokens;
+use rules::OuterVertices;
+use rules::Resources;
+use rules::WIDTHS;
+ghost use mathlib.Core.Path.{_≡_};
+ghost use Prim.Native.Nat.{_+_, _*_, _≤_, _<_};
+ghost use lib.ListN.{length, take, getD};
+ghost use Rattle.rows.specs.Number.{stored};
+ghost use Rattle.book.specs.Ready.{Loadable, Savable};
+ghost use Rattle.rules.specs.Bytes.{tables, headIn, header, counts, start, laid, read, bookIn, write, Room};
+
+// The head that a book's first 17 bytes give.
+pub fn head_in(bytes: &[u8]) -> Head
+    requires { ⌜ 17 ≤ length (now bytes) ⌝ }
+    ensures { λ r. ⌜ r ≡ headIn (now (bytes .entry)) ⌝ }
+{
+    let mode = Mode(bytes[5] as u16);
+    let users = Joined(bytes[6] as u16);
+    let resources = Resources(rows::get2(bytes, 7));
+    let inner_vertices = InnerVertices(rows::get2(bytes, 9));
+    let inner_tokens = InnerTokens(rows::get2(bytes, 11));
+    let outer_vertices = OuterVertices(rows::get2(bytes, 13));
+    let outer_tokens = OuterTokens(rows::get2(bytes, 15));
+    Head {
+        mode,
+        users,
+        resources,
+        inner_vertices,
+        inner_tokens,
+        outer_vertices,
+        outer_tokens,
+    }
+}
+
+// The header of a book, into the first 17 bytes.
+fn put_header(buffer: &mut [u8], h: Head)
+    requires { ⌜ (17 ≤ length (now buffer)) × (h .mode .0 < 256) × (h .users .0 < 256) ⌝ }
+    ensures { λ _. ⌜ now (buffer .exit) ≡ stored 0 (header h) (now (buffer .entry)) ⌝ }
+{
+    buffer[0] = 0x54;
+    buffer[1] = 0x4B;
+    buffer[2] = 0x42;
+    rows::put2(buffer, 3, 1);
+    buffer[5] = h.mode.0 as u8;
+    buffer[6] = h.users.0 as u8;
+    rows::put2(buffer, 7, h.resources.0);
+    rows::put2(buffer, 9, h.inner_vertices.0);
+    rows::put2(buffer, 11, h.inner_tokens.0);
+    rows::put2(buffer, 13, h.outer_vertices.0);
+    rows::put2(buffer, 15, h.outer_tokens.0);
+}
+
+// How many rows section k has.
+fn count_of(h: Head, k: usize) -> usize
+    ensures { λ r. ⌜ r ≡ getD (counts h) k 0 ⌝ }
+{
+    match k {
+        0 => h.inner_vertices.0 as usize,
+        1 => h.inner_tokens.0 as usize,
+        2 => h.outer_vertices.0 as usize,
+        3 => h.outer_tokens.0 as usize,
+        4 => h.resources.0 as usize,
+        _ => 0,
+    }
+}
+
+// Where section k starts; 5 is the end.
+pub fn start_of(h: Head, k: usize) -> usize
+    requires { ⌜ k ≤ 5 ⌝ }
+    ensures { λ r. ⌜ r ≡ start h k ⌝ }
+{
+    let mut at: usize = 17;
+    let mut i: usize = 0;
+    while i < k {
+        at += count_of(h, i) * WIDTHS[i];
+        i += 1;
+    }
+    at
+}
+
+// Bytes over the first of others.
+fn copy(from: &[u8], to: &mut [u8])
+    requires { ⌜ length (now from) ≤ length (now to) ⌝ }
+    ensures { λ _. ⌜ now (to .exit) ≡ stored 0 (now (from .entry)) (now (to .entry)) ⌝ }
+{
+    let mut i: usize = 0;
+    while i < from.len() {
+        to[i] = from[i];
+        i += 1;
+    }
+}
+
+// The five sections of a book into five tables.
+fn load(
+    bytes: &[u8],
+    h: Head,
+    iv: &mut [u8],
+    it: &mut [u8],
+    ov: &mut [u8],
+    ot: &mut [u8],
+    rs: &mut [u8],
+)
+    requires { ⌜ Loadable (now bytes) h (tables (now iv) (now it) (now ov) (now ot) (now rs)) ⌝ }
+    ensures { λ _. ⌜ (tables (now (iv .exit)) (now (it .exit)) (now (ov .exit)) (now (ot .exit)) (now (rs .exit))) ≡ laid (read (now (bytes .entry))) (tables (now (iv .entry)) (now (it .entry)) (now (ov .entry)) (now (ot .entry)) (now (rs .entry))) ⌝ }
+{
+    let a = start_of(h, 1);
+    let b = start_of(h, 2);
+    let c = start_of(h, 3);
+    let d = start_of(h, 4);
+    copy(&bytes[17..a], iv);
+    copy(&bytes[a..b], it);
+    copy(&bytes[b..c], ov);
+    copy(&bytes[c..d], ot);
+    copy(&bytes[d..], rs);
+}
+
+// The first n bytes of a table into a buffer, from `at` on.
+fn put(table: &[u8], n: usize, buffer: &mut [u8], at: usize)
+    requires { ⌜ (n ≤ length (now table)) × (at + n ≤ length (now buffer)) ⌝ }
+    ensures { λ _. ⌜ now (buffer .exit) ≡ stored at (take n (now (table .entry))) (now (buffer .entry)) ⌝ }
+{
+    copy(&table[..n], &mut buffer[at..]);
+}
+
+// Header and sections, one after the other.
+fn save(h: Head, iv: &[u8], it: &[u8], ov: &[u8], ot: &[u8], rs: &[u8], buffer: &mut [u8])
+    requires { ⌜ Savable h (tables (now iv) (now it) (now ov) (now ot) (now rs)) (now buffer) ⌝ }
+    ensures { λ _. ⌜ now (buffer .exit) ≡ stored 0 (write (bookIn h (tables (now (iv .entry)) (now (it .entry)) (now (ov .entry)) (now (ot .entry)) (now (rs .entry))))) (now (buffer .entry)) ⌝ }
+{
+    put_header(buffer, h);
+    let a = start_of(h, 1);
+    let b = start_of(h, 2);
+    let c = start_of(h, 3);
+    let d = start_of(h, 4);
+    put(iv, a - 17, buffer, 17);
+    put(it, b - a, buffer, a);
+    put(ov, c - b, buffer, b);
+    put(ot, d - c, buffer, c);
+    put(rs, start_of(h, 5) - d, buffer, d);
+}
