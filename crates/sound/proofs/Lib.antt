@@ -1,0 +1,4 @@
+pub mod Answers
+pub mod RuleParts
+pub mod Required
+pub mod Verdicts
