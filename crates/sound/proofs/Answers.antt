@@ -9,7 +9,7 @@ use native.Mathlib.Omega.{arith}
 use lib.Dec.{ltb, leb·zero, leb·suc-suc}
 use lib.ListN.{length, getD, take, length-take}
 use lib.Seq.{getD-take}
-use borrow.Author.Tests.{not-true}
+use borrow.Author.Tests.{not-true, not-false}
 use Rattle.rules.specs.Lists.{every, some, first, pairwise, numbered, upTo}
 use Rattle.sets.proofs.Laws.{both}
 use Rattle.theorems.proofs.ListLaws.{every-mem, mem-every, some-mem, mem-some, getD-mem, mem-getD, pairwise-at, upTo-mem, mem-upTo, length-tabulate}
@@ -124,6 +124,10 @@ module _ {A : Type 0} where
 
 -- ---- a rule of several parts
 
+-- the answer x is whether the search r found nothing
+pub told : {x : Bool} {r f : Found} → x ≡ nothing r → r ≡ f → x ≡ nothing f
+told a e = a ∙ ap nothing e
+
 unfoldable pub all : List Bool → Bool
 all [] = true
 all (p ∷ ps) = p && all ps
@@ -148,14 +152,14 @@ one-false [] k e = absurd (true≢false e)
 one-false (p ∷ ps) zero e = ap (λ b. b && all ps) e
 one-false (p ∷ ps) (suc k) e = ap (λ b. p && b) (one-false ps k e) ∙ and-false p
 
--- the answer x on part k is no
-pub stop : {s x : Bool} {ps : List Bool} → Parts s ps → (k : ℕ) → x ≡ getD ps k true → x ≡ false → false ≡ s
-stop {ps = ps} h k a e = sym (h .is ∙ one-false ps k (sym a ∙ e))
+-- the answer x on part k is no (the check tests `!x`)
+pub stop : {s x : Bool} {ps : List Bool} → Parts s ps → (k : ℕ) → x ≡ getD ps k true → not x ≡ true → false ≡ s
+stop {x = x} {ps = ps} h k a e = sym (h .is ∙ one-false ps k (sym a ∙ not-true x e))
 
 -- on the first it is yes, and the others are left
-pub on : {s p x : Bool} {ps : List Bool} → Parts s (p ∷ ps) → x ≡ p → x ≡ true → Parts s ps
+pub on : {s p x : Bool} {ps : List Bool} → Parts s (p ∷ ps) → x ≡ p → not x ≡ false → Parts s ps
 unfolding all
-on {ps = ps} h a e = record { is = h .is ∙ ap (λ b. b && all ps) (sym a ∙ e) }
+on {x = x} {ps = ps} h a e = record { is = h .is ∙ ap (λ b. b && all ps) (sym a ∙ not-false x e) }
 
 -- one part is left
 pub last : {s p x : Bool} → Parts s (p ∷ []) → x ≡ p → x ≡ s

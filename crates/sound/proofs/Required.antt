@@ -61,10 +61,10 @@ module _ (h : Head) (t : Tables) where
       }
 
   -- tables that are as long as their limits have room
-  pub counts-room : {x y : Bool} → x ≡ not (short t) → x ≡ true → y ≡ countsOf h → y ≡ true → Room h t
-  counts-room a p b q =
-      let l : Long t = short-long t (not-true (short t) (sym a ∙ p)) in
-      let c : Within h = counts-within (sym b ∙ q) in
+  pub counts-room : {x y : Bool} → x ≡ not (short t) → not x ≡ false → y ≡ countsOf h → not y ≡ false → Room h t
+  counts-room {x} {y} a p b q =
+      let l : Long t = short-long t (not-true (short t) (sym a ∙ not-false x p)) in
+      let c : Within h = counts-within (sym b ∙ not-false y q) in
       record {
         innerVertices = omega arith;
         innerTokens = omega arith;
