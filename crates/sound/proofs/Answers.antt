@@ -156,6 +156,9 @@ one-false (p ∷ ps) (suc k) e = ap (λ b. p && b) (one-false ps k e) ∙ and-fa
 pub stop : {s x : Bool} {ps : List Bool} → Parts s ps → (k : ℕ) → x ≡ getD ps k true → not x ≡ true → false ≡ s
 stop {x = x} {ps = ps} h k a e = sym (h .is ∙ one-false ps k (sym a ∙ not-true x e))
 
+pub yes : {s x : Bool} → x ≡ s → not x ≡ false → s ≡ true
+yes {x = x} a e = sym a ∙ not-false x e
+
 -- on the first it is yes, and the others are left
 pub on : {s p x : Bool} {ps : List Bool} → Parts s (p ∷ ps) → x ≡ p → not x ≡ false → Parts s ps
 unfolding all

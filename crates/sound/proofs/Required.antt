@@ -4,7 +4,7 @@ use Prim.Native.Nat.{ℕ, _+_, _*_, _^_, _≤_, _<_}
 use mathlib.Core.Path.{_≡_, refl, sym, ap, _∙_}
 use mathlib.Core.Bool.{Bool, true, false, _&&_, _||_, not, Bool·not-not}
 use mathlib.Core.Logic.{_⊎_, inl, inr}
-use mathlib.Core.List.{List, List·Memᴰ}
+use mathlib.Core.List.{List, [], List·Memᴰ}
 use native.Mathlib.Omega.{arith}
 use lib.Dec.{eqb, ltb, leb, lit≤}
 use lib.ListN.{length, getD}
@@ -14,7 +14,7 @@ use Rattle.rules.specs.Lists.{first}
 use Rattle.rules.specs.Book.{Resource, none, hasOuter}
 use Rattle.rules.specs.Open.{tokenAt}
 use Rattle.rules.specs.Layer.{token}
-use Rattle.rules.specs.Bytes.{Tables, Room, bookIn, headOf, tokensIn, resourcesIn}
+use Rattle.rules.specs.Bytes.{Tables, tables, Room, bookIn, headOf, tokensIn, resourcesIn}
 use Rattle.rules.specs.Sound.{S1, maxUsers, maxResources, maxTokens, maxGroups}
 use Rattle.rules.specs.Refusals.{short}
 use Rattle.rules.specs.declared.Head.{Head}
@@ -40,40 +40,55 @@ pub record Within (h : Head) : Type 0 where
   pub innerTokens≤ : h .«inner_tokens» .0 ≤ maxTokens
   pub outerTokens≤ : h .«outer_tokens» .0 ≤ maxTokens
 
-module _ (h : Head) (t : Tables) where
-  pub counts-within : countsOf h ≡ true → Within h
-  unfolding headOf bookIn
-  counts-within e =
-      let c : Counts (bookIn h t) = counts-are (bookIn h t) (counts-of h t ∙ e) in
-      let is = head-in h t in
-      let rs : length (bookIn h t .resources) ≡ h .resources .0 = ap (λ h. h .resources .0) is in
-      let iv : length (bookIn h t .inner .sets) ≡ h .«inner_vertices» .0 = ap (λ h. h .«inner_vertices» .0) is in
-      let it : length (bookIn h t .inner .tokens) ≡ h .«inner_tokens» .0 = ap (λ h. h .«inner_tokens» .0) is in
-      let ov : length (bookIn h t .outer .sets) ≡ h .«outer_vertices» .0 = ap (λ h. h .«outer_vertices» .0) is in
-      let ot : length (bookIn h t .outer .tokens) ≡ h .«outer_tokens» .0 = ap (λ h. h .«outer_tokens» .0) is in
-      record {
-        users≤ = c .users≤;
-        resources≤ = omega arith;
-        inner≤ = omega arith;
-        outer≤ = omega arith;
-        innerTokens≤ = omega arith;
-        outerTokens≤ = omega arith;
-      }
+-- by the answer y of the check, which tests `!y`
+pub counts-within : (h : Head) {y : Bool} → y ≡ countsOf h → not y ≡ false → Within h
+unfolding headOf bookIn
+counts-within h {y} b q =
+    let t : Tables = tables [] [] [] [] [] in
+    let c : Counts (bookIn h t) = counts-are (bookIn h t) (counts-of h t ∙ sym b ∙ not-false y q) in
+    let is = head-in h t in
+    let rs : length (bookIn h t .resources) ≡ h .resources .0 = ap (λ h. h .resources .0) is in
+    let iv : length (bookIn h t .inner .sets) ≡ h .«inner_vertices» .0 = ap (λ h. h .«inner_vertices» .0) is in
+    let it : length (bookIn h t .inner .tokens) ≡ h .«inner_tokens» .0 = ap (λ h. h .«inner_tokens» .0) is in
+    let ov : length (bookIn h t .outer .sets) ≡ h .«outer_vertices» .0 = ap (λ h. h .«outer_vertices» .0) is in
+    let ot : length (bookIn h t .outer .tokens) ≡ h .«outer_tokens» .0 = ap (λ h. h .«outer_tokens» .0) is in
+    record {
+      users≤ = c .users≤;
+      resources≤ = omega arith;
+      inner≤ = omega arith;
+      outer≤ = omega arith;
+      innerTokens≤ = omega arith;
+      outerTokens≤ = omega arith;
+    }
 
-  -- tables that are as long as their limits have room
-  pub counts-room : {x y : Bool} → x ≡ not (short t) → not x ≡ false → y ≡ countsOf h → not y ≡ false → Room h t
-  counts-room {x} {y} a p b q =
-      let l : Long t = short-long t (not-true (short t) (sym a ∙ not-false x p)) in
-      let c : Within h = counts-within (sym b ∙ not-false y q) in
-      record {
-        innerVertices = omega arith;
-        innerTokens = omega arith;
-        outerVertices = omega arith;
-        outerTokens = omega arith;
-        resources = omega arith;
-      }
+-- tables that are as long as their limits have room
+pub counts-room : (h : Head) (t : Tables) {x y : Bool} → x ≡ not (short t) → not x ≡ false → y ≡ countsOf h → not y ≡ false → Room h t
+counts-room h t {x} {y} a p b q =
+    let l : Long t = short-long t (not-true (short t) (sym a ∙ not-false x p)) in
+    let c : Within h = counts-within h b q in
+    record {
+      innerVertices = omega arith;
+      innerTokens = omega arith;
+      outerVertices = omega arith;
+      outerTokens = omega arith;
+      resources = omega arith;
+    }
 
 -- ---- the rows
+
+-- the tables hold a layer's rows
+pub record Held (l : Shape) (ts vs : List ℕ) : Type 0 where
+  pub low : 4 ≤ l .width
+  pub high : l .width ≤ 5
+  pub rows : l .tokens * l .width ≤ length ts
+  pub sets : l .vertices * 8 ≤ length vs
+
+module _ (h : Head) (t : Tables) (r : Room h t) {l : Shape} where
+  pub inner-held : l ≡ innerShape h → Held l (t .innerTokens) (t .innerVertices)
+  inner-held e = rw e (record { low = lit≤ tt; high = lit≤ tt; rows = r .innerTokens; sets = r .innerVertices })
+
+  pub outer-held : l ≡ outerShape h → Held l (t .outerTokens) (t .outerVertices)
+  outer-held e = rw e (record { low = lit≤ tt; high = lit≤ tt; rows = r .outerTokens; sets = r .outerVertices })
 
 token-ends : (w n m : ℕ) (ts : List ℕ) → nothing (strangeTokens w n m ts) ≡ true → Ends m (tokensIn w n ts)
 token-ends w n m ts e x i =
@@ -81,15 +96,14 @@ token-ends w n m ts e x i =
     let (front, to) = both (leb (x .kind) 1 && ltb (x .from) m) (ltb (x .to) m) row in
     (ltb-true (x .from) m (both (leb (x .kind) 1) (ltb (x .from) m) front .1), ltb-true (x .to) m to)
 
-layer-laid : (l : Shape) (ts vs : List ℕ) → 4 ≤ l .width → l .width ≤ 5 → l .tokens * l .width ≤ length ts → l .vertices * 8 ≤ length vs → l .tokens < 65536
-    → Ends (l .vertices) (tokensIn (l .width) (l .tokens) ts) → Laid l ts vs
+layer-laid : (l : Shape) (ts vs : List ℕ) → Held l ts vs → l .tokens < 65536 → Ends (l .vertices) (tokensIn (l .width) (l .tokens) ts) → Laid l ts vs
 unfolding layerOf tokenAt
-layer-laid l ts vs low high rows sets few e =
+layer-laid l ts vs h few e =
     record {
-      low = low;
-      high = high;
-      rows = rows;
-      sets = sets;
+      low = h .low;
+      high = h .high;
+      rows = h .rows;
+      sets = h .sets;
       few = few;
       from< = λ k lt. e _ (there k lt) .0;
       to< = λ k lt. e _ (there k lt) .1;
@@ -112,16 +126,17 @@ resource-placed u n m k rs e x i =
 
 module _ (h : Head) (t : Tables) (s1 : S1 (bookIn h t) ≡ true) where
   pub s1-within : Within h
-  s1-within = counts-within h t (part (s1-parts h t refl refl) 0 s1)
+  s1-within = counts-within h refl (ap not (part (s1-parts h t refl refl) 0 s1))
 
   module _ {l : Shape} (e : l ≡ innerShape h) where
     pub inner-ends : Ends (l .vertices) (tokensIn (l .width) (l .tokens) (t .innerTokens))
     inner-ends = token-ends (l .width) (l .tokens) (l .vertices) (t .innerTokens) (part (s1-parts h t e refl) 2 s1)
 
+    pub inner-few : l .vertices ≤ 512
+    inner-few = let w = s1-within in rw e (omega arith)
+
     pub inner-laid : Room h t → Laid l (t .innerTokens) (t .innerVertices)
-    inner-laid r =
-        let w = s1-within in
-        layer-laid l (t .innerTokens) (t .innerVertices) (rw e (lit≤ tt)) (rw e (lit≤ tt)) (rw e (r .innerTokens)) (rw e (r .innerVertices)) (rw e (omega arith)) inner-ends
+    inner-laid r = let w = s1-within in layer-laid l (t .innerTokens) (t .innerVertices) (inner-held h t r e) (rw e (omega arith)) inner-ends
 
     pub inner-vertices : Inners (l .vertices) (resourcesIn (h .resources .0) (t .resources))
     inner-vertices x m = resource-placed (h .users .0) (l .vertices) (h .«outer_vertices» .0) (h .resources .0) (t .resources) (part (s1-parts h t e refl) 5 s1) x m .0
@@ -130,10 +145,11 @@ module _ (h : Head) (t : Tables) (s1 : S1 (bookIn h t) ≡ true) where
     pub outer-ends : Ends (l .vertices) (tokensIn (l .width) (l .tokens) (t .outerTokens))
     outer-ends = token-ends (l .width) (l .tokens) (l .vertices) (t .outerTokens) (part (s1-parts h t refl e) 4 s1)
 
+    pub outer-few : l .vertices ≤ 512
+    outer-few = let w = s1-within in rw e (omega arith)
+
     pub outer-laid : Room h t → Laid l (t .outerTokens) (t .outerVertices)
-    outer-laid r =
-        let w = s1-within in
-        layer-laid l (t .outerTokens) (t .outerVertices) (rw e (lit≤ tt)) (rw e (lit≤ tt)) (rw e (r .outerTokens)) (rw e (r .outerVertices)) (rw e (omega arith)) outer-ends
+    outer-laid r = let w = s1-within in layer-laid l (t .outerTokens) (t .outerVertices) (outer-held h t r e) (rw e (omega arith)) outer-ends
 
   pub outer-vertices : Outers (h .«outer_vertices» .0) (resourcesIn (h .resources .0) (t .resources))
   outer-vertices x m =
