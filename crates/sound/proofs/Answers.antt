@@ -6,10 +6,10 @@ use mathlib.Core.Bool.{Bool, true, false, _&&_, not, cond, true≢false, false�
 use mathlib.Core.List.{List, [], _∷_, List·Memᴰ, List·Memᴰ·head, List·Memᴰ·tail}
 use native.Mathlib.Nat.{le-of-suc-le-suc, zero-lt-suc}
 use native.Mathlib.Omega.{arith}
-use lib.Dec.{ltb, leb·zero, leb·suc-suc}
+use lib.Dec.{ltb, leb, leb·zero, leb·suc-suc}
 use lib.ListN.{length, getD, take, length-take}
 use lib.Seq.{getD-take}
-use borrow.Author.Tests.{not-true, not-false}
+use borrow.Author.Tests.{not-true, not-false, lt-leb, le-leb}
 use Rattle.rules.specs.Lists.{every, some, first, pairwise, numbered, upTo}
 use Rattle.sets.proofs.Laws.{both}
 use Rattle.theorems.proofs.ListLaws.{every-mem, mem-every, some-mem, mem-some, getD-mem, mem-getD, pairwise-at, upTo-mem, mem-upTo, length-tabulate}
@@ -78,8 +78,8 @@ module _ {A : Type 0} where
   pairwise-same p q (x ∷ xs) h =
       rw (
         same (every (p x) xs) (every (q x) xs)
-        (λ e. mem-every (q x) xs (λ y m. sym (h x y (List·Memᴰ·head refl) (List·Memᴰ·tail m)) ∙ every-mem (p x) xs e m))
-        (λ e. mem-every (p x) xs (λ y m. h x y (List·Memᴰ·head refl) (List·Memᴰ·tail m) ∙ every-mem (q x) xs e m)),
+            (λ e. mem-every (q x) xs (λ y m. sym (h x y (List·Memᴰ·head refl) (List·Memᴰ·tail m)) ∙ every-mem (p x) xs e m))
+            (λ e. mem-every (p x) xs (λ y m. h x y (List·Memᴰ·head refl) (List·Memᴰ·tail m) ∙ every-mem (q x) xs e m)),
         pairwise-same p q xs (λ y z m n. h y z (List·Memᴰ·tail m) (List·Memᴰ·tail n)),
       )
 
@@ -168,3 +168,10 @@ on {x = x} {ps = ps} h a e = record { is = h .is ∙ ap (λ b. b && all ps) (sym
 pub last : {s p x : Bool} → Parts s (p ∷ []) → x ≡ p → x ≡ s
 unfolding all
 last {p = p} h a = a ∙ sym (h .is ∙ and-true p)
+
+-- a part that bounds a number
+pub over : (a b : ℕ) → b < a → not (leb a b) ≡ true
+over a b h = ap not (lt-leb a b h)
+
+pub under : (a b : ℕ) → a ≤ b → not (leb a b) ≡ false
+under a b h = ap not (le-leb a b h)
