@@ -1,0 +1,3 @@
+pub mod FirstRow
+pub mod United
+pub mod Held
