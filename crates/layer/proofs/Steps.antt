@@ -61,7 +61,7 @@ found-at {n} {i} {j} {r} a e = go (ltb i n) refl e
     go true q e = let k : i ≡ j = cc in (omega (arith, ltb-true i n q), k)
     go false q e = let z : _≡_ {A = ℕ} 0 1 = cc in absurd (omega arith)
 
-not-found : {n i : ℕ} {r : Found} → r ≡ Nothing → r ≡ foundIn n i → n ≤ i
+pub not-found : {n i : ℕ} {r : Found} → r ≡ Nothing → r ≡ foundIn n i → n ≤ i
 not-found {n} {i} {r} a e = go (ltb i n) refl e
   where
     go : (c : Bool) → ltb i n ≡ c → r ≡ cond c (At i) Nothing → n ≤ i

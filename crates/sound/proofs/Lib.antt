@@ -1,3 +1,5 @@
-pub mod FirstRow
+pub mod Scan
+pub mod FaultLaws
+pub mod Reading
 pub mod United
-pub mod Held
+pub mod Repeats

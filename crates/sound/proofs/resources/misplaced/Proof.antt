@@ -6,12 +6,12 @@ use native.Mathlib.Omega.{arith}
 use Rattle.rules.specs.Bytes.{resourcesIn}
 use Rattle.layer.proofs.Read.{length-resources}
 use Rattle.sound.specs.Faults.{placedAt}
-use Rattle.sound.proofs.FirstRow.{Passed, row-here, row-on, row-over}
+use Rattle.sound.proofs.Scan.{Sought, sought-here, sought-on, sought-over}
 use Rattle.sound.proofs.resources.misplaced.Statement.{statement}
 use Rattle.sound.proofs.resources.misplaced.Tie as tie
 
 abbrev Inv-loop : tie.InvT-loop
-Inv-loop resources n users inner outer i₀ i = Passed (λ x. not (placedAt users inner outer x)) (resourcesIn n resources) n i
+Inv-loop resources n users inner outer i₀ i = Sought (λ x. not (placedAt users inner outer x)) (resourcesIn n resources) n i
 
 abbrev μ-loop : tie.MeasureT-loop
 μ-loop resources n users inner outer i₀ i = n - i
@@ -28,7 +28,7 @@ placed-requires c κs = omega arith
 returns : tie.Need-returns Inv-loop μ-loop
 returns c =
     let x = c .before .before in
-    row-here _ _ _ _ (x .before .before .loop .inv) (x .before .loop-test .taken) (x .resource-in .ensures) (ap not (c .before .placed .ensures)) (c .if1 .taken)
+    sought-here _ _ _ _ (x .before .before .loop .inv) (x .before .loop-test .taken) (x .resource-in .ensures) (ap not (c .before .placed .ensures)) (c .if1 .taken)
 
 add-i : tie.Need-add-i Inv-loop μ-loop
 add-i c = omega arith
@@ -39,11 +39,11 @@ loop-less c = omega arith
 loop-again : tie.Need-loop-again Inv-loop μ-loop
 loop-again c =
     let x = c .before .before in
-    row-on _ _ _ _ (x .before .before .loop .inv) (x .before .loop-test .taken) (x .resource-in .ensures) (ap not (c .before .placed .ensures))
-    (length-resources _ _) (c .if1 .left)
+    sought-on _ _ _ (length-resources _ _) _ (x .before .before .loop .inv) (x .before .loop-test .taken) (x .resource-in .ensures) (ap not (c .before .placed .ensures))
+    (c .if1 .left)
 
 returns-2 : tie.Need-returns-2 Inv-loop μ-loop
-returns-2 c = row-over _ _ _ (c .before .loop .inv) (c .loop-test .left)
+returns-2 c = sought-over _ _ _ (c .before .loop .inv) (c .loop-test .left)
 
 pub misplaced-spec : {M : Type 1} → statement M
 misplaced-spec =
