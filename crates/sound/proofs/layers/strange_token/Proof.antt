@@ -9,62 +9,50 @@ use Rattle.rules.specs.Layer.{token}
 use Rattle.rules.specs.Bytes.{tokensIn}
 use Rattle.layer.proofs.Read.{length-tokens}
 use Rattle.sound.specs.Faults.{placedIn}
-use Rattle.sound.proofs.Scan.{Sought, sought-here, sought-on, sought-over}
+use Rattle.layer.proofs.Search.{Passed, row-here, row-on, row-over}
 use Rattle.sound.proofs.layers.strange_token.Statement.{statement}
 use Rattle.sound.proofs.layers.strange_token.Tie as tie
-use Rattle.sound.proofs.layers.strange_token.Reads as reads
-use Rattle.sound.proofs.layers.strange_token.Lts as lts
-use Rattle.layer.proofs.table.token_in.Reads as token-in-reads
 
 abbrev Inv-loop : tie.InvT-loop
-Inv-loop tokens width n vertices i₀ i = Sought (λ t. not (placedIn vertices t)) (tokensIn width n tokens) n i
+Inv-loop tokens width n vertices i₀ i = Passed (λ t. not (placedIn vertices t)) (tokensIn width n tokens) n i
 
 abbrev μ-loop : tie.MeasureT-loop
 μ-loop tokens width n vertices i₀ i = n - i
 
--- src/layers.rt:52:5
 loop-holds : tie.Need-loop-holds Inv-loop μ-loop
 loop-holds c = omega arith
 
--- src/layers.rt:53:13
 token-in-requires : tie.Need-token-in-requires Inv-loop μ-loop
 token-in-requires c κs = omega arith
 
--- src/layers.rt:54:26
 cast-if2 : tie.Need-cast-if2 Inv-loop μ-loop
 cast-if2 c = omega arith
 
--- src/layers.rt:54:57
 cast-if3 : tie.Need-cast-if3 Inv-loop μ-loop
 cast-if3 c = omega arith
 
--- src/layers.rt:55:13
 returns : tie.Need-returns Inv-loop μ-loop
 returns c =
     let read = c .before .before in
-    sought-here _ _ _ (token 0 0 0) (read .before .before .loop .inv) (omega arith) (read .token-in .ensures) refl
+    row-here _ _ _ (token 0 0 0) (read .before .before .loop .inv) (omega arith) (read .token-in .ensures) refl
     (⊎-elim (λ w. rw (lt-leb _ _ (w .taken)))
     (⊎-elim (λ w. rw (le-leb _ _ (w .0 .left), le-ltb _ _ (leb-true _ _ (w .2 .taken))))
     (λ w. rw (le-leb _ _ (w .0 .left), lt-ltb _ _ (leb-false _ _ (w .2 .left)), le-ltb _ _ (leb-true _ _ (w .4 .taken))))) (c .if1 .came))
 
--- src/layers.rt:57:9
 add-i : tie.Need-add-i Inv-loop μ-loop
 add-i c = omega arith
 
--- src/layers.rt:52:5
 loop-less : tie.Need-loop-less Inv-loop μ-loop
 loop-less c = omega arith
 
--- src/layers.rt:52:5
 loop-again : tie.Need-loop-again Inv-loop μ-loop
 loop-again c =
     let read = c .before .before .before .before .before .before in
-    sought-on _ _ _ (length-tokens _ _ _) (token 0 0 0) (read .before .before .loop .inv) (omega arith) (read .token-in .ensures) refl
+    row-on _ _ _ (token 0 0 0) (read .before .before .loop .inv) (omega arith) (read .token-in .ensures) refl (length-tokens _ _ _)
     (rw (le-leb _ _ (c .before .before .before .before .if1 .left), lt-ltb _ _ (leb-false _ _ (c .before .before .if2 .left)), lt-ltb _ _ (leb-false _ _ (c .if3 .left))))
 
--- src/layers.rt:47:1
 returns-2 : tie.Need-returns-2 Inv-loop μ-loop
-returns-2 c = sought-over _ _ _ (c .before .loop .inv) (c .loop-test .left)
+returns-2 c = row-over _ _ _ (c .before .loop .inv) (c .loop-test .left)
 
 pub strange-token-spec : {M : Type 1} → statement M
 strange-token-spec =

@@ -10,34 +10,25 @@ use Rattle.rules.specs.Bytes.{tokensIn}
 use Rattle.layer.specs.Laid.{layerOf}
 use Rattle.layer.proofs.Read.{length-tokens}
 use Rattle.sound.specs.Faults.{keeps, keepsBy}
-use Rattle.sound.proofs.Scan.{Sought, sought-here, sought-on, sought-over}
+use Rattle.layer.proofs.Search.{Passed, row-here, row-on, row-over}
 use Rattle.sound.proofs.layers.token_fault.Statement.{statement}
 use Rattle.sound.proofs.layers.token_fault.Tie as tie
-use Rattle.sound.proofs.layers.token_fault.Reads as reads
-use Rattle.sound.proofs.layers.token_fault.Lts as lts
-use Rattle.layer.proofs.table.set_of.Reads as set-of-reads
-use Rattle.layer.proofs.table.token_in.Reads as token-in-reads
-use Rattle.sound.proofs.layers.holds.Reads as holds-reads
 
 abbrev Inv-loop : tie.InvT-loop
-Inv-loop tokens vertices l rule i₀ i = Sought (λ t. not (keeps rule (layerOf l tokens vertices) t)) (tokensIn (l .width) (l .tokens) tokens) (l .tokens) i
+Inv-loop tokens vertices l rule i₀ i = Passed (λ t. not (keeps rule (layerOf l tokens vertices) t)) (tokensIn (l .width) (l .tokens) tokens) (l .tokens) i
 
 abbrev μ-loop : tie.MeasureT-loop
 μ-loop tokens vertices l rule i₀ i = l .tokens - i
 
--- src/layers.rt:101:5
 loop-holds : tie.Need-loop-holds Inv-loop μ-loop
 loop-holds c = omega arith
 
--- src/layers.rt:102:13
 token-in-requires : tie.Need-token-in-requires Inv-loop μ-loop
 token-in-requires c κs = omega arith
 
--- src/layers.rt:103:49
 cast-set-of : tie.Need-cast-set-of Inv-loop μ-loop
 cast-set-of c = omega arith
 
--- src/layers.rt:103:13
 set-of-requires : tie.Need-set-of-requires Inv-loop μ-loop
 unfolding layerOf tokenAt
 set-of-requires c κs =
@@ -45,11 +36,9 @@ set-of-requires c κs =
     let laid = l .before .before .before .pre in
     (laid .sets, rw (c .before .token-in .ensures) (laid .from< (l .loop .i) (omega arith)))
 
--- src/layers.rt:104:47
 cast-set-of-2 : tie.Need-cast-set-of-2 Inv-loop μ-loop
 cast-set-of-2 c = omega arith
 
--- src/layers.rt:104:13
 set-of-requires-2 : tie.Need-set-of-requires-2 Inv-loop μ-loop
 unfolding layerOf tokenAt
 set-of-requires-2 c κs =
@@ -57,7 +46,6 @@ set-of-requires-2 c κs =
     let laid = l .before .before .before .pre in
     (laid .sets, rw (c .before .before .before .token-in .ensures) (laid .to< (l .loop .i) (omega arith)))
 
--- src/layers.rt:105:13
 holds-requires : tie.Need-holds-requires Inv-loop μ-loop
 holds-requires c κs = search needs
 
@@ -71,29 +59,26 @@ answer c =
     let a = t .before .before .before .before .before .before .args in
     c .holds .ensures ∙ ap₂ (keepsBy (a .rule) (t .token-in .result .kind)) (second .before .before .set-of .ensures) (second .set-of2 .ensures)
 
--- src/layers.rt:106:13
 returns : tie.Need-returns Inv-loop μ-loop
 returns c =
     let t = c .before .before .before .before .before .before in
-    sought-here _ _ _ (token 0 0 0) (t .before .before .before .loop .inv) (t .before .if1 .taken) (t .token-in .ensures) (ap not (answer (c .before))) (c .if2 .taken)
+    row-here _ _ _ (token 0 0 0) (t .before .before .before .loop .inv) (t .before .if1 .taken) (t .token-in .ensures) (ap not (answer (c .before)))
+    (c .if2 .taken)
 
--- src/layers.rt:108:9
 add-i : tie.Need-add-i Inv-loop μ-loop
 add-i c = omega arith
 
--- src/layers.rt:101:5
 loop-less : tie.Need-loop-less Inv-loop μ-loop
 loop-less c = omega arith
 
--- src/layers.rt:101:5
 loop-again : tie.Need-loop-again Inv-loop μ-loop
 loop-again c =
     let t = c .before .before .before .before .before .before in
-    sought-on _ _ _ (length-tokens _ _ _) (token 0 0 0) (t .before .before .before .loop .inv) (t .before .if1 .taken) (t .token-in .ensures) (ap not (answer (c .before))) (c .if2 .left)
+    row-on _ _ _ (token 0 0 0) (t .before .before .before .loop .inv) (t .before .if1 .taken) (t .token-in .ensures) (ap not (answer (c .before)))
+    (length-tokens _ _ _) (c .if2 .left)
 
--- src/layers.rt:96:1
 returns-2 : tie.Need-returns-2 Inv-loop μ-loop
-returns-2 c = sought-over _ _ _ (c .before .before .loop .inv) (c .if1 .left)
+returns-2 c = row-over _ _ _ (c .before .before .loop .inv) (c .if1 .left)
 
 pub token-fault-spec : {M : Type 1} → statement M
 token-fault-spec =
