@@ -1,7 +1,8 @@
--- Tests of the rules of one layer by what the code reads: a set of joined users by a shift, and whether a vertex has a set by the search for it.
+-- Tests of the rules of one layer by what the code reads: a set of joined users by a shift, whether a vertex has a set by the search for it, and a
+-- token's rule by the sets at its ends.
 -- Assumes nothing.
 use Prim.Native.Nat.{ℕ, _*_, _/_, _^_, _≤_, _<_}
-use mathlib.Core.Path.{_≡_, refl, sym, ap, _∙_}
+use mathlib.Core.Path.{_≡_, refl, sym, ap, ap₂, _∙_}
 use mathlib.Core.Bool.{Bool, true, false}
 use mathlib.Core.List.{List}
 use native.Mathlib.Nat.{div-eq-of-lt, div-lt-iff-lt-mul, one-mul}
@@ -11,6 +12,8 @@ use lib.Pow.{pow-pos}
 use lib.ListN.{getD}
 use borrow.Author.Tests.{ltb-true, ltb-false, eq-eqb, ne-eqb}
 use Rattle.rules.specs.Lists.{first, some}
+use Rattle.rules.specs.Layer.{Layer, setOf}
+use Rattle.rules.specs.declared.Token.{Token}
 use Rattle.rules.specs.Bytes.{setsIn}
 use Rattle.rules.specs.Sound.{joinedSet}
 use Rattle.layer.specs.Laid.{foundIn, isSet}
@@ -18,7 +21,8 @@ use Rattle.layer.specs.declared.table.Found.{Found}
 use Rattle.layer.specs.declared.table.Found.the-variants.{At, Nothing}
 use Rattle.layer.proofs.Read.{length-sets, sets-front}
 use Rattle.layer.proofs.Steps.{some-found, none-found}
-use Rattle.sound.specs.Faults.{repeated}
+use Rattle.sound.specs.Faults.{keeps, keepsBy, repeated}
+use Rattle.sound.specs.declared.layers.Rule.{Rule}
 
 -- S1: nothing is left of the set past the first n users
 pub joined-shift : (n s : ℕ) → eqb (s / 2 ^ n) 0 ≡ joinedSet n s
@@ -44,3 +48,8 @@ module _ (n : ℕ) (vs : List ℕ) {s x : ℕ} (k : s ≡ x) {r : Found} (e : r 
 pub repeated-before : (n : ℕ) (vs : List ℕ) (i : ℕ) → i ≤ n → repeated (setsIn n vs) i ≡ some (isSet (getD (setsIn n vs) i 0)) (setsIn i vs)
 unfolding repeated
 repeated-before n vs i h = ap (some (isSet (getD (setsIn n vs) i 0))) (sets-front n vs i h)
+
+-- S2, S4 and S6 of a token, by the answer r at the sets that were read at its ends
+pub keeps-read : (rule : Rule) (L : Layer) (t : Token) {a b : ℕ} {r : Bool} → a ≡ setOf L (t .from) → b ≡ setOf L (t .to) → r ≡ keepsBy rule (t .kind) a b
+    → r ≡ keeps rule L t
+keeps-read rule L t p q e = e ∙ ap₂ (keepsBy rule (t .kind)) p q

@@ -5,9 +5,9 @@ use native.Mathlib.Omega.{arith}
 use borrow.Author.Needs.{needs}
 use Rattle.rules.specs.Lists.{upTo}
 use Rattle.rules.specs.Bytes.{setsIn}
+use Rattle.layer.proofs.Search.{Passed, row-over, number-here, number-on}
 use Rattle.sound.specs.Faults.{repeated}
 use Rattle.sound.proofs.FaultLaws.{repeated-before, set-found, set-missing}
-use Rattle.layer.proofs.Search.{Passed, row-over, number-here, number-on}
 use Rattle.sound.proofs.layers.equal_set.Statement.{statement}
 use Rattle.sound.proofs.layers.equal_set.Tie as tie
 

@@ -6,9 +6,9 @@ use native.Mathlib.Omega.{arith}
 use borrow.Author.Needs.{needs}
 use Rattle.rules.specs.Lists.{upTo}
 use Rattle.rules.specs.Bytes.{setsIn}
+use Rattle.layer.proofs.Search.{Passed, row-over, number-here, number-on}
 use Rattle.sound.specs.Faults.{hasOwnIn}
 use Rattle.sound.proofs.FaultLaws.{set-found, set-missing}
-use Rattle.layer.proofs.Search.{Passed, row-over, number-here, number-on}
 use Rattle.sound.proofs.layers.ownless.Statement.{statement}
 use Rattle.sound.proofs.layers.ownless.Tie as tie
 
