@@ -1,4 +1,3 @@
-pub mod Scan
 pub mod FaultLaws
 pub mod Reading
 pub mod United

@@ -7,7 +7,9 @@ use mathlib.Core.Logic.{_⊎_, inl, inr}
 use mathlib.Core.List.{List, [], _∷_, _++_, map, List·Memᴰ, List·Memᴰ·head, List·Memᴰ·tail, List·Memᴰ·cases-cons, List·Memᴰ·not-nil, Memᴰ·cast, List·Memᴰ·append-cases}
 use native.Mathlib.Nat.{not-suc-le-zero, le-of-suc-le-suc, zero-lt-suc, add-suc, suc-add, add-zero, zero-add, le-refl}
 use native.Mathlib.Omega.{arith}
+use lib.Dec.{ltb, leb·suc-zero, leb·suc-suc}
 use lib.ListN.{length, getD}
+use borrow.Author.Tests.{lt-ltb}
 use Rattle.rules.specs.Lists.{every, some, keep, first, numbered, pairwise, tabulateFrom, tabulate, upTo}
 use Rattle.sets.proofs.Laws.{both}
 
@@ -180,6 +182,16 @@ module _ {A : Type 0} where
       go true k = zero-lt-suc (length xs)
       go false k = omega arith
 
+  -- some element passes exactly if the first that does is one of them
+  pub some-first : (p : A → Bool) (xs : List A) → some p xs ≡ ltb (first p xs) (length xs)
+  unfolding some first
+  some-first p [] = sym (leb·suc-zero 0)
+  some-first p (x ∷ xs) = go (p x) (some-first p xs)
+    where
+      go : (b : Bool) → some p xs ≡ ltb (first p xs) (length xs) → (b || some p xs) ≡ ltb (cond b zero (suc (first p xs))) (suc (length xs))
+      go true e = sym (lt-ltb zero (suc (length xs)) (zero-lt-suc (length xs)))
+      go false e = e ∙ sym (leb·suc-suc (suc (first p xs)) (length xs))
+
   -- ---- tabulate
 
   pub length-tabulateFrom : (i n : ℕ) (f : ℕ → A) → length (tabulateFrom i n f) ≡ n
@@ -202,15 +214,19 @@ module _ {A : Type 0} where
   unfolding tabulate
   getD-tabulate n f k d h = getD-tabulateFrom 0 n f k d h ∙ ap f (zero-add k)
 
-pub upTo-mem : (n : ℕ) {u : ℕ} → List·Memᴰ u (upTo n) → u < n
+pub length-upTo : (n : ℕ) → length (upTo n) ≡ n
 unfolding upTo
+length-upTo n = length-tabulate n (λ i. i)
+
+pub getD-upTo : (n i d : ℕ) → i < n → getD (upTo n) i d ≡ i
+unfolding upTo
+getD-upTo n i d h = getD-tabulate n (λ i. i) i d h
+
+pub upTo-mem : (n : ℕ) {u : ℕ} → List·Memᴰ u (upTo n) → u < n
 upTo-mem n m =
-    let (i, h, e) = mem-getD (tabulate n (λ i. i)) 0 m in
-    let l : i < n = rw (length-tabulate n (λ i. i)) at h in
-    omega (arith, getD-tabulate n (λ i. i) i 0 l)
+    let (i, h, e) = mem-getD (upTo n) 0 m in
+    let l : i < n = rw (length-upTo n) at h in
+    omega (arith, getD-upTo n i 0 l)
 
 pub mem-upTo : (n u : ℕ) → u < n → List·Memᴰ u (upTo n)
-unfolding upTo
-mem-upTo n u h =
-    Memᴰ·cast (sym (getD-tabulate n (λ i. i) u 0 h))
-    (getD-mem (tabulate n (λ i. i)) u 0 (omega (arith, length-tabulate n (λ (i : ℕ). i))))
+mem-upTo n u h = Memᴰ·cast (sym (getD-upTo n u 0 h)) (getD-mem (upTo n) u 0 (omega (arith, length-upTo n)))

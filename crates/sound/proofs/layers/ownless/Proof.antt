@@ -6,70 +6,56 @@ use native.Mathlib.Omega.{arith}
 use borrow.Author.Needs.{needs}
 use Rattle.rules.specs.Lists.{upTo}
 use Rattle.rules.specs.Bytes.{setsIn}
+use Rattle.layer.proofs.Search.{Passed, row-over, number-here, number-on}
 use Rattle.sound.specs.Faults.{hasOwnIn}
 use Rattle.sound.proofs.FaultLaws.{set-found, set-missing}
-use Rattle.sound.proofs.Scan.{Sought, sought-over, number-here, number-on}
 use Rattle.sound.proofs.layers.ownless.Statement.{statement}
 use Rattle.sound.proofs.layers.ownless.Tie as tie
-use Rattle.sound.proofs.layers.ownless.Reads as reads
-use Rattle.sound.proofs.layers.ownless.Lts as lts
-use Rattle.layer.proofs.table.find_set.Reads as find-set-reads
-use Rattle.sets.proofs.Users.only.Reads as only-reads
 
 abbrev Inv-loop : tie.InvT-loop
-Inv-loop vertices n users u₀ u = Sought (λ v. not (hasOwnIn (setsIn n vertices) v)) (upTo users) users u
+Inv-loop vertices n users u₀ u = Passed (λ v. not (hasOwnIn (setsIn n vertices) v)) (upTo users) users u
 
 abbrev μ-loop : tie.MeasureT-loop
 μ-loop vertices n users u₀ u = users - u
 
--- src/layers.rt:68:5
 loop-holds : tie.Need-loop-holds Inv-loop μ-loop
 loop-holds c = omega arith
 
--- src/layers.rt:69:50
 only-requires : tie.Need-only-requires Inv-loop μ-loop
 only-requires c κs = omega arith
 
--- src/layers.rt:69:28
 find-set-requires : tie.Need-find-set-requires Inv-loop μ-loop
 find-set-requires c κs = omega arith
 
 enum-told : tie.Need-enum-told Inv-loop μ-loop
 enum-told c = search needs
 
--- src/layers.rt:70:30
 enum-told-2 : tie.Need-enum-told-2 Inv-loop μ-loop
 enum-told-2 c = search needs
 
--- src/layers.rt:70:30
 cast-t9 : tie.Need-cast-t9 Inv-loop μ-loop
 cast-t9 c = omega arith
 
--- src/layers.rt:70:13
 returns : tie.Need-returns Inv-loop μ-loop
 returns c =
     let found = c .before .before in
     number-here _ _ (found .before .before .before .loop .inv) (omega arith)
-    (ap not (set-missing _ _ (found .before .only .ensures) (c .enum-told2 .given .1) (found .find-set .ensures)))
+    (ap not (set-missing _ _ (found .before .only .ensures) (found .find-set .ensures) (c .enum-told2 .given .1)))
 
--- src/layers.rt:72:9
 add-u : tie.Need-add-u Inv-loop μ-loop
 add-u c = omega arith
 
--- src/layers.rt:68:5
 loop-less : tie.Need-loop-less Inv-loop μ-loop
 loop-less c = omega arith
 
--- src/layers.rt:68:5
 loop-again : tie.Need-loop-again Inv-loop μ-loop
 loop-again c =
     let found = c .before .before in
     number-on _ _ (found .before .before .before .loop .inv) (omega arith)
-    (ap not (set-found _ _ (found .before .only .ensures) (c .enum-told .given .1) (found .find-set .ensures)))
+    (ap not (set-found _ _ (found .before .only .ensures) (found .find-set .ensures) (c .enum-told .given .1)))
 
--- src/layers.rt:63:1
 returns-2 : tie.Need-returns-2 Inv-loop μ-loop
-returns-2 c = sought-over _ _ _ (c .before .loop .inv) (c .loop-test .left)
+returns-2 c = row-over _ _ _ (c .before .loop .inv) (c .loop-test .left)
 
 pub ownless-spec : {M : Type 1} → statement M
 ownless-spec =
