@@ -16,14 +16,14 @@ use Rattle.sets.proofs.Laws.{both}
 use Rattle.rules.specs.Lists.{first, some, upTo}
 use Rattle.rules.specs.Layer.{token}
 use Rattle.rules.specs.declared.Token.{Token}
-use Rattle.theorems.proofs.ListLaws.{getD-mem, first-at, first-le}
+use Rattle.theorems.proofs.ListLaws.{getD-mem, first-at, length-upTo, getD-upTo}
 use Rattle.theorems.proofs.WalkLaws.{first-least, first-after}
 use Rattle.layer.specs.Laid.{foundIn}
 use Rattle.layer.specs.declared.table.Found.{Found}
 use Rattle.layer.specs.declared.table.Found.the-variants.{At, Nothing}
+use Rattle.layer.proofs.Search.{Passed, row-over, number-here, number-on}
 use Rattle.layer.proofs.Steps.{found-at, not-found}
 use Rattle.sound.specs.Faults.{again, againInto, Ends}
-use Rattle.sound.proofs.Scan.{Sought, sought-over, number-here, number-on, length-upTo, getD-upTo}
 
 pub some-append : {A : Type 0} (p : A → Bool) (xs ys : List A) → some p (xs ++ ys) ≡ (some p xs || some p ys)
 unfolding some
@@ -100,7 +100,7 @@ module _ (ts : List Token) (v : ℕ) where
 
 module _ (ts : List Token) (v n : ℕ) (s : length ts ≡ n) where
   abbrev pub Seeking : ℕ → List Bool → Type 0
-  Seeking i seen = Sought (againInto ts v) (upTo n) n i × Marked ts v i seen
+  Seeking i seen = Passed (againInto ts v) (upTo n) n i × Marked ts v i seen
 
   -- the next token, t
   module _ {t : Token} {i : ℕ} {seen : List Bool} (h : Seeking i seen) (l : i < n) (e : t ≡ getD ts i (token 0 0 0)) where
@@ -180,7 +180,7 @@ module _ (ts : List Token) (n : ℕ) (s : length ts ≡ n) where
         least-on h (omega arith) (omega (arith, h .inside)) (inl q)
 
   module _ {v f vertices : ℕ} (ends : Ends vertices ts) (h : Least v f) (l : vertices ≤ v) where
-    sought : Sought (again ts) (upTo n) n f
+    sought : Passed (again ts) (upTo n) n f
     sought = (h .inside, first-after (again ts) (upTo n) 0 f (rw length-upTo (h .inside)) none)
       where
         none : (j : ℕ) → j < f → again ts (getD (upTo n) j 0) ≡ false
@@ -193,4 +193,4 @@ module _ (ts : List Token) (n : ℕ) (s : length ts ≡ n) where
     least-here k = number-here (again ts) n sought k (h .repeats k)
 
     pub least-over : n ≤ f → Nothing ≡ foundIn n (first (again ts) (upTo n))
-    least-over k = sought-over (again ts) (upTo n) n sought k
+    least-over k = row-over (again ts) (upTo n) n sought k

@@ -5,9 +5,9 @@ use native.Mathlib.Omega.{arith}
 use mathlib.Core.Logic.{⊎-elim}
 use Rattle.rules.specs.Lists.{upTo}
 use Rattle.rules.specs.Bytes.{tokensIn}
+use Rattle.layer.proofs.Search.{row-over}
 use Rattle.layer.proofs.Read.{length-tokens}
 use Rattle.sound.specs.Faults.{againInto}
-use Rattle.sound.proofs.Scan.{sought-over}
 use Rattle.sound.proofs.Reading.{row-mem}
 use Rattle.sound.proofs.Repeats.{Seeking, marked-none, seek-other, seek-new, seek-found}
 use Rattle.sound.proofs.layers.again_into.Statement.{statement}
@@ -64,7 +64,7 @@ loop-again c =
     (c .if1 .came)
 
 returns-2 : tie.Need-returns-2 Inv-loop μ-loop
-returns-2 c = sought-over _ _ _ (c .before .loop .inv .0) (c .loop-test .left)
+returns-2 c = row-over _ _ _ (c .before .loop .inv .0) (c .loop-test .left)
 
 pub again-into-spec : {M : Type 1} → statement M
 again-into-spec =

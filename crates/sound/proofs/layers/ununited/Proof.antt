@@ -8,15 +8,15 @@ use Rattle.rules.specs.Layer.{setOf}
 use Rattle.rules.specs.Bytes.{setsIn}
 use Rattle.rules.specs.Sound.{unitedVertex}
 use Rattle.layer.specs.Laid.{layerOf}
+use Rattle.layer.proofs.Search.{Passed, row-here, row-on, row-over}
 use Rattle.layer.proofs.Read.{length-sets}
-use Rattle.sound.proofs.Scan.{Sought, sought-here, sought-on, sought-over}
 use Rattle.sound.proofs.United.{length-numbered, vertex-at, united-row}
 use Rattle.sound.proofs.layers.ununited.Statement.{statement}
 use Rattle.sound.proofs.layers.ununited.Tie as tie
 
 abbrev Inv-loop : tie.InvT-loop
 Inv-loop tokens vertices l v₀ v =
-    Sought (λ x. not (unitedVertex (layerOf l tokens vertices) x)) (numbered 0 (setsIn (l .vertices) vertices)) (l .vertices) v
+    Passed (λ x. not (unitedVertex (layerOf l tokens vertices) x)) (numbered 0 (setsIn (l .vertices) vertices)) (l .vertices) v
 
 abbrev μ-loop : tie.MeasureT-loop
 μ-loop tokens vertices l v₀ v = l .vertices - v
@@ -31,7 +31,7 @@ returns : tie.Need-returns Inv-loop μ-loop
 unfolding layerOf setOf
 returns c =
     let l = c .before .before .before .before in
-    sought-here _ _ _ _ (l .loop .inv) (c .before .before .if1 .taken) (vertex-at _ _ (rw length-sets (c .before .before .if1 .taken)))
+    row-here _ _ _ _ (l .loop .inv) (c .before .before .if1 .taken) (vertex-at _ _ (rw length-sets (c .before .before .if1 .taken)))
     (united-row _ _ (c .before .united .ensures)) (c .if2 .taken)
 
 add-v : tie.Need-add-v Inv-loop μ-loop
@@ -44,11 +44,11 @@ loop-again : tie.Need-loop-again Inv-loop μ-loop
 unfolding layerOf setOf
 loop-again c =
     let l = c .before .before .before .before in
-    sought-on _ _ _ (length-numbered _ _ ∙ length-sets _ _) _ (l .loop .inv) (c .before .before .if1 .taken) (vertex-at _ _ (rw length-sets (c .before .before .if1 .taken)))
-    (united-row _ _ (c .before .united .ensures)) (c .if2 .left)
+    row-on _ _ _ _ (l .loop .inv) (c .before .before .if1 .taken) (vertex-at _ _ (rw length-sets (c .before .before .if1 .taken)))
+    (united-row _ _ (c .before .united .ensures)) (length-numbered _ _ ∙ length-sets _ _) (c .if2 .left)
 
 returns-2 : tie.Need-returns-2 Inv-loop μ-loop
-returns-2 c = sought-over _ _ _ (c .before .before .loop .inv) (c .if1 .left)
+returns-2 c = row-over _ _ _ (c .before .before .loop .inv) (c .if1 .left)
 
 pub ununited-spec : {M : Type 1} → statement M
 ununited-spec =

@@ -7,15 +7,15 @@ use Rattle.sets.specs.Sets.{within}
 use Rattle.rules.specs.Holders.{holders}
 use Rattle.rules.specs.Bytes.{resourcesIn}
 use Rattle.layer.specs.Laid.{layerOf, resourceIs}
+use Rattle.layer.proofs.Search.{Passed, row-here, row-on, row-over}
 use Rattle.layer.proofs.Read.{length-resources}
-use Rattle.sound.proofs.Scan.{Sought, sought-here, sought-on, sought-over}
 use Rattle.sound.proofs.Reading.{row-mem, by-holders}
 use Rattle.sound.proofs.resources.unheld.Statement.{statement}
 use Rattle.sound.proofs.resources.unheld.Tie as tie
 
 abbrev Inv-loop : tie.InvT-loop
 Inv-loop resources n tokens vertices l i₀ i =
-    Sought (λ x. not (within (x .list) (holders (layerOf l tokens vertices) (x .inner)))) (resourcesIn n resources) n i
+    Passed (λ x. not (within (x .list) (holders (layerOf l tokens vertices) (x .inner)))) (resourcesIn n resources) n i
 
 abbrev μ-loop : tie.MeasureT-loop
 μ-loop resources n tokens vertices l i₀ i = n - i
@@ -49,7 +49,7 @@ answered c =
 returns : tie.Need-returns Inv-loop μ-loop
 returns c =
     let x = c .before .before .before .before in
-    sought-here _ _ _ _ (x .before .before .loop .inv) (x .before .loop-test .taken) (x .resource-in .ensures) (ap not (answered (c .before))) (c .if1 .taken)
+    row-here _ _ _ _ (x .before .before .loop .inv) (x .before .loop-test .taken) (x .resource-in .ensures) (ap not (answered (c .before))) (c .if1 .taken)
 
 add-i : tie.Need-add-i Inv-loop μ-loop
 add-i c = omega arith
@@ -60,11 +60,11 @@ loop-less c = omega arith
 loop-again : tie.Need-loop-again Inv-loop μ-loop
 loop-again c =
     let x = c .before .before .before .before in
-    sought-on _ _ _ (length-resources _ _) _ (x .before .before .loop .inv) (x .before .loop-test .taken) (x .resource-in .ensures) (ap not (answered (c .before)))
-    (c .if1 .left)
+    row-on _ _ _ _ (x .before .before .loop .inv) (x .before .loop-test .taken) (x .resource-in .ensures) (ap not (answered (c .before)))
+    (length-resources _ _) (c .if1 .left)
 
 returns-2 : tie.Need-returns-2 Inv-loop μ-loop
-returns-2 c = sought-over _ _ _ (c .before .loop .inv) (c .loop-test .left)
+returns-2 c = row-over _ _ _ (c .before .loop .inv) (c .loop-test .left)
 
 pub unheld-spec : {M : Type 1} → statement M
 unheld-spec =
