@@ -1,22 +1,22 @@
 -- S6, "no token row occurs twice", as the code looks for it: vertex after vertex, and among the tokens into a vertex with a mark for each source seen.
 -- Assumes nothing.
-use Prim.Native.Nat.{ℕ, zero, suc, _+_, _≤_, _<_}
-use mathlib.Core.Path.{_≡_, refl, sym, ap, ap₂, _∙_}
-use mathlib.Core.Bool.{Bool, true, false, _&&_, _||_, and-false, or-false, or-true, true≢false}
+use Prim.Native.Nat.{ℕ, _+_, _≤_, _<_}
+use mathlib.Core.Path.{_≡_, refl, sym, ap, _∙_}
+use mathlib.Core.Bool.{Bool, true, false, _&&_, _||_, and-false, or-false, or-true}
 use mathlib.Core.Logic.{_⊎_, inl, inr}
-use mathlib.Core.List.{List, [], _∷_, _++_}
+use mathlib.Core.List.{List}
 use native.Mathlib.Numerals.{add-one}
 use native.Mathlib.Decide.{ℕ-discrete}
 use native.Mathlib.Omega.{arith}
 use lib.Dec.{eqb}
-use lib.ListN.{length, take, getD, set, replicate, length-set}
+use lib.ListN.{length, take, getD, set, replicate, length-set, getD-replicate}
 use lib.Seq.{take-suc, getD-set-same, getD-set-other}
-use borrow.Author.Tests.{eqb-true, eq-eqb, ne-eqb}
+use borrow.Author.Tests.{eq-eqb, ne-eqb}
 use Rattle.sets.proofs.Laws.{both}
 use Rattle.rules.specs.Lists.{first, some, upTo}
 use Rattle.rules.specs.Layer.{token}
 use Rattle.rules.specs.declared.Token.{Token}
-use Rattle.theorems.proofs.ListLaws.{getD-mem, first-at, length-upTo, getD-upTo}
+use Rattle.theorems.proofs.ListLaws.{getD-mem, some-append, first-at, length-upTo, getD-upTo}
 use Rattle.theorems.proofs.WalkLaws.{first-least, first-after}
 use Rattle.layer.specs.Laid.{foundIn}
 use Rattle.layer.specs.declared.table.Found.{Found}
@@ -25,23 +25,9 @@ use Rattle.layer.proofs.Search.{Passed, row-over, number-here, number-on}
 use Rattle.layer.proofs.Steps.{found-at, not-found}
 use Rattle.sound.specs.Faults.{again, againInto, Ends}
 
-pub some-append : {A : Type 0} (p : A → Bool) (xs ys : List A) → some p (xs ++ ys) ≡ (some p xs || some p ys)
-unfolding some
-some-append p [] ys = refl
-some-append p (x ∷ xs) ys = go (p x) (some-append p xs ys)
-  where
-    go : (b : Bool) → some p (xs ++ ys) ≡ (some p xs || some p ys) → (b || some p (xs ++ ys)) ≡ (b || some p xs || some p ys)
-    go true e = refl
-    go false e = e
-
 is-false : (b : Bool) → (b ≡ true → ⊥) → b ≡ false
 is-false true n = absurd (n refl)
 is-false false n = refl
-
-getD-replicate : {A : Type 0} (n : ℕ) (a : A) (i : ℕ) → getD (replicate n a) i a ≡ a
-getD-replicate zero a i = refl
-getD-replicate (suc n) a zero = refl
-getD-replicate (suc n) a (suc i) = getD-replicate n a i
 
 -- ---- the tokens into v
 
@@ -57,7 +43,7 @@ module _ (ts : List Token) (v : ℕ) where
 
   pub marked-none : Marked 0 (replicate 512 false)
   unfolding some
-  marked-none = record { all = refl; marks = λ f h. getD-replicate 512 false f }
+  marked-none = record { all = refl; marks = λ f h. getD-replicate 512 f false false h }
 
   -- the next token, t
   module _ {t : Token} {i : ℕ} (l : i < length ts) (e : t ≡ getD ts i (token 0 0 0)) where
@@ -98,12 +84,12 @@ module _ (ts : List Token) (v : ℕ) where
 
 -- ---- the search for the first that repeats one into v
 
-module _ (ts : List Token) (v n : ℕ) (s : length ts ≡ n) where
+module _ (ts : List Token) (v n : ℕ) where
   abbrev pub Seeking : ℕ → List Bool → Type 0
   Seeking i seen = Passed (againInto ts v) (upTo n) n i × Marked ts v i seen
 
   -- the next token, t
-  module _ {t : Token} {i : ℕ} {seen : List Bool} (h : Seeking i seen) (l : i < n) (e : t ≡ getD ts i (token 0 0 0)) where
+  module _ (s : length ts ≡ n) {t : Token} {i : ℕ} {seen : List Bool} (h : Seeking i seen) (l : i < n) (e : t ≡ getD ts i (token 0 0 0)) where
     pub seek-other : (t .to ≡ v → ⊥) → {after : List Bool} → after ≡ seen → Seeking (i + 1) after
     seek-other m a =
         let there : i < length ts = omega arith in
@@ -120,19 +106,25 @@ module _ (ts : List Token) (v n : ℕ) (s : length ts ≡ n) where
           let there : i < length ts = omega arith in
           number-here (againInto ts v) n (h .0) l (into-again ts v there e q (h .1) k b)
 
--- the repeats into v are the repeats that lead there
-module _ (ts : List Token) (v j : ℕ) where
-  again-into : getD ts j (token 0 0 0) .to ≡ v → again ts j ≡ true → againInto ts v j ≡ true
+module _ (ts : List Token) (n v : ℕ) where
+  abbrev pub firstInto : ℕ
+  firstInto = first (againInto ts v) (upTo n)
+
+  -- every repeat that leads to v is one, and it is a repeat
+  into-least : (j : ℕ) → j < n → again ts j ≡ true → getD ts j (token 0 0 0) .to ≡ v → firstInto ≤ j
   unfolding againInto
-  again-into e a = rw (eq-eqb (getD ts j (token 0 0 0) .to) v e) a
+  into-least j k a e = first-least (againInto ts v) (upTo n) 0 j (rw (getD-upTo n j 0 k, eq-eqb (getD ts j (token 0 0 0) .to) v e) a)
 
-  into-is : againInto ts v j ≡ true → again ts j ≡ true
+  into-repeats : firstInto < n → again ts firstInto ≡ true
   unfolding againInto
-  into-is e = both (eqb (getD ts j (token 0 0 0) .to) v) (again ts j) e .1
+  into-repeats k =
+      let there : firstInto < length (upTo n) = rw length-upTo k in
+      let found : againInto ts v firstInto ≡ true = rw (getD-upTo n firstInto 0 k) at (first-at (againInto ts v) (upTo n) 0 there) in
+      both (eqb (getD ts firstInto (token 0 0 0) .to) v) (again ts firstInto) found .1
 
--- ---- the least of the answers for each v
+-- ---- the least of those for each v
 
-module _ (ts : List Token) (n : ℕ) (s : length ts ≡ n) where
+module _ (ts : List Token) (n : ℕ) where
   -- f is the first token that repeats one, among those into a vertex below v, or n where there is none
   pub record Least (v f : ℕ) : Type 0 where
     pub inside : f ≤ n
@@ -143,45 +135,33 @@ module _ (ts : List Token) (n : ℕ) (s : length ts ≡ n) where
   least-none = record { inside = omega arith; earlier = λ j h a. omega arith; repeats = λ h. absurd (omega arith) }
 
   -- with the first into v, the lesser of both
-  least-on : {v f g : ℕ} → Least v f → g ≤ f → g ≤ first (againInto ts v) (upTo n) → (g ≡ f) ⊎ (g ≡ first (againInto ts v) (upTo n)) → Least (v + 1) g
+  least-on : {v f g : ℕ} → Least v f → g ≤ f → g ≤ firstInto ts n v → (g ≡ f) ⊎ (g ≡ firstInto ts n v) → Least (v + 1) g
   least-on {v} {f} {g} h l m o = record { inside = omega (arith, h .inside); earlier = later; repeats = λ k. go k o }
     where
-      into : (j : ℕ) → j < n → againInto ts v j ≡ true → first (againInto ts v) (upTo n) ≤ j
-      into j k e = first-least (againInto ts v) (upTo n) 0 j (rw (getD-upTo n j 0 k) e)
-
       later : (j : ℕ) → j < g → again ts j ≡ true → v + 1 ≤ getD ts j (token 0 0 0) .to
       later j k a =
-          let there : j < n = omega (arith, h .inside) in
-          let other : getD ts j (token 0 0 0) .to ≡ v → ⊥ = λ e. omega (arith, into j there (again-into ts v j e a)) in
+          let other : getD ts j (token 0 0 0) .to ≡ v → ⊥ = λ e. omega (arith, into-least ts n v j (omega (arith, h .inside)) a e) in
           omega (arith, h .earlier j (omega arith) a)
 
-      go : g < n → (g ≡ f) ⊎ (g ≡ first (againInto ts v) (upTo n)) → again ts g ≡ true
+      go : g < n → (g ≡ f) ⊎ (g ≡ firstInto ts n v) → again ts g ≡ true
       go k (inl e) = rw e (h .repeats (omega arith))
-      go k (inr e) =
-          let there : first (againInto ts v) (upTo n) < length (upTo n) = rw length-upTo (omega arith) in
-          let low : first (againInto ts v) (upTo n) < n = omega arith in
-          rw e (into-is ts v (first (againInto ts v) (upTo n)) (rw (getD-upTo n (first (againInto ts v) (upTo n)) 0 low) at (first-at (againInto ts v) (upTo n) 0 there)))
+      go k (inr e) = rw e (into-repeats ts n v (omega arith))
 
   -- by the answer r for v, and what the code keeps, g
-  module _ {v f g : ℕ} (h : Least v f) {r : Found} (a : r ≡ foundIn n (first (againInto ts v) (upTo n))) where
+  module _ {v f g : ℕ} (h : Least v f) {r : Found} (a : r ≡ foundIn n (firstInto ts n v)) where
     pub least-less : {j : ℕ} → r ≡ At j → j < f → g ≡ j → Least (v + 1) g
-    least-less {j} e l q =
-        let at : first (againInto ts v) (upTo n) ≡ j = found-at e a .1 in
-        least-on h (omega arith) (omega arith) (inr (q ∙ sym at))
+    least-less {j} e l q = let at : firstInto ts n v ≡ j = found-at e a .1 in least-on h (omega arith) (omega arith) (inr (q ∙ sym at))
 
     pub least-kept : {j : ℕ} → r ≡ At j → f ≤ j → g ≡ f → Least (v + 1) g
-    least-kept {j} e l q =
-        let at : first (againInto ts v) (upTo n) ≡ j = found-at e a .1 in
-        least-on h (omega arith) (omega arith) (inl q)
+    least-kept {j} e l q = let at : firstInto ts n v ≡ j = found-at e a .1 in least-on h (omega arith) (omega arith) (inl q)
 
     pub least-same : r ≡ Nothing → g ≡ f → Least (v + 1) g
-    least-same e q =
-        let far : n ≤ first (againInto ts v) (upTo n) = not-found e a in
-        least-on h (omega arith) (omega (arith, h .inside)) (inl q)
+    least-same e q = let far : n ≤ firstInto ts n v = not-found e a in least-on h (omega arith) (omega (arith, h .inside)) (inl q)
 
-  module _ {v f vertices : ℕ} (ends : Ends vertices ts) (h : Least v f) (l : vertices ≤ v) where
-    sought : Passed (again ts) (upTo n) n f
-    sought = (h .inside, first-after (again ts) (upTo n) 0 f (rw length-upTo (h .inside)) none)
+  -- past the last vertex
+  module _ (s : length ts ≡ n) {v f vertices : ℕ} (ends : Ends vertices ts) (h : Least v f) (l : vertices ≤ v) where
+    all-passed : Passed (again ts) (upTo n) n f
+    all-passed = (h .inside, first-after (again ts) (upTo n) 0 f (rw length-upTo (h .inside)) none)
       where
         none : (j : ℕ) → j < f → again ts (getD (upTo n) j 0) ≡ false
         none j k =
@@ -190,7 +170,7 @@ module _ (ts : List Token) (n : ℕ) (s : length ts ≡ n) where
             rw (getD-upTo n j 0 there) (is-false (again ts j) (λ a. omega (arith, h .earlier j k a, ends (getD ts j (token 0 0 0)) m .1)))
 
     pub least-here : f < n → At f ≡ foundIn n (first (again ts) (upTo n))
-    least-here k = number-here (again ts) n sought k (h .repeats k)
+    least-here k = number-here (again ts) n all-passed k (h .repeats k)
 
     pub least-over : n ≤ f → Nothing ≡ foundIn n (first (again ts) (upTo n))
-    least-over k = row-over (again ts) (upTo n) n sought k
+    least-over k = row-over (again ts) (upTo n) n all-passed k

@@ -2,7 +2,7 @@
 -- Assumes nothing.
 use Prim.Native.Nat.{ℕ, zero, suc, _+_, _≤_, _<_}
 use mathlib.Core.Path.{_≡_, refl, sym, ap, ap₂, _∙_, subst}
-use mathlib.Core.Bool.{Bool, true, false, _&&_, _||_, not, cond, true≢false, false≢true, or-true}
+use mathlib.Core.Bool.{Bool, true, false, _&&_, _||_, not, cond, true≢false, false≢true, or-true, or-assoc}
 use mathlib.Core.Logic.{_⊎_, inl, inr}
 use mathlib.Core.List.{List, [], _∷_, _++_, map, List·Memᴰ, List·Memᴰ·head, List·Memᴰ·tail, List·Memᴰ·cases-cons, List·Memᴰ·not-nil, Memᴰ·cast, List·Memᴰ·append-cases}
 use native.Mathlib.Nat.{not-suc-le-zero, le-of-suc-le-suc, zero-lt-suc, add-suc, suc-add, add-zero, zero-add, le-refl}
@@ -72,6 +72,18 @@ module _ {A : Type 0} where
       let (i, h, e) = numbered-mem (suc n) xs d m in
       (suc i, omega arith, e ∙ ap (λ k. (k, getD xs i d)) (suc-add n i ∙ sym (add-suc n i)))
 
+  pub length-numbered : (n : ℕ) (xs : List A) → length (numbered n xs) ≡ length xs
+  unfolding numbered
+  length-numbered n [] = refl
+  length-numbered n (x ∷ xs) = ap suc (length-numbered (suc n) xs)
+
+  pub getD-numbered : (n : ℕ) (xs : List A) (d : A) (e : ℕ × A) (i : ℕ) → i < length xs → getD (numbered n xs) i e ≡ (n + i, getD xs i d)
+  unfolding numbered
+  getD-numbered n [] d e i h = absurd (not-suc-le-zero h)
+  getD-numbered n (x ∷ xs) d e zero h = ap (λ k. (k, x)) (sym (add-zero n))
+  getD-numbered n (x ∷ xs) d e (suc i) h =
+      getD-numbered (suc n) xs d e i (le-of-suc-le-suc h) ∙ ap (λ k. (k, getD xs i d)) (suc-add n i ∙ sym (add-suc n i))
+
   pub mem-numbered : (n : ℕ) (xs : List A) (d : A) (i : ℕ) → i < length xs → List·Memᴰ (n + i, getD xs i d) (numbered n xs)
   unfolding numbered
   mem-numbered n [] d i h = absurd (not-suc-le-zero h)
@@ -88,6 +100,11 @@ module _ {A : Type 0} where
       go : {x : A} → List·Memᴰ x xs ⊎ List·Memᴰ x ys → p x ≡ true
       go (inl m) = every-mem p xs h m
       go (inr m) = every-mem p ys k m
+
+  pub some-append : (p : A → Bool) (xs ys : List A) → some p (xs ++ ys) ≡ (some p xs || some p ys)
+  unfolding some
+  some-append p [] ys = refl
+  some-append p (x ∷ xs) ys = ap (λ (b : Bool). p x || b) (some-append p xs ys) ∙ sym (or-assoc (p x) (some p xs) (some p ys))
 
   pub keep-append : (p : A → Bool) (xs ys : List A) → keep p (xs ++ ys) ≡ keep p xs ++ keep p ys
   unfolding keep

@@ -3,18 +3,16 @@
 use Prim.Native.Nat.{_-_, _<_}
 use native.Mathlib.Omega.{arith}
 use mathlib.Core.Logic.{⊎-elim}
-use Rattle.rules.specs.Lists.{upTo}
 use Rattle.rules.specs.Bytes.{tokensIn}
 use Rattle.layer.proofs.Search.{row-over}
 use Rattle.layer.proofs.Read.{length-tokens}
-use Rattle.sound.specs.Faults.{againInto}
 use Rattle.sound.proofs.Reading.{row-mem}
 use Rattle.sound.proofs.Repeats.{Seeking, marked-none, seek-other, seek-new, seek-found}
 use Rattle.sound.proofs.layers.again_into.Statement.{statement}
 use Rattle.sound.proofs.layers.again_into.Tie as tie
 
 abbrev Inv-loop : tie.InvT-loop
-Inv-loop tokens width n v seen₀ i₀ seen i = Seeking (tokensIn width n tokens) v n (length-tokens width n tokens) i seen
+Inv-loop tokens width n v seen₀ i₀ seen i = Seeking (tokensIn width n tokens) v n i seen
 
 abbrev μ-loop : tie.MeasureT-loop
 μ-loop tokens width n v seen₀ i₀ seen i = n - i

@@ -11,13 +11,13 @@ use Rattle.sound.proofs.layers.equal_token.Tie as tie
 
 abbrev Inv-loop : tie.InvT-loop
 Inv-loop tokens width n vertices first₀ v₀ first v =
-    (v ≤ vertices) × Least (tokensIn width n tokens) n (length-tokens width n tokens) v first
+    (v ≤ vertices) × Least (tokensIn width n tokens) n v first
 
 abbrev μ-loop : tie.MeasureT-loop
 μ-loop tokens width n vertices first₀ v₀ first v = vertices - v
 
 loop-holds : tie.Need-loop-holds Inv-loop μ-loop
-loop-holds c = (omega arith, least-none _ _ _)
+loop-holds c = (omega arith, least-none _ _)
 
 again-into-requires : tie.Need-again-into-requires Inv-loop μ-loop
 again-into-requires c κs =
@@ -41,19 +41,19 @@ loop-again c =
     let h = c .before .before .before .loop .inv .1 in
     let a = c .before .again-into .ensures in (
       omega arith,
-      ⊎-elim (λ w. least-less _ _ _ h a (w .1 .given .1) (w .3 .taken) (w .4))
-          (⊎-elim (λ w. least-kept _ _ _ h a (w .1 .given .1) (w .3 .left) (w .4)) (λ w. least-same _ _ _ h a (w .1 .given .1) (w .2))) (c .match .came),
+      ⊎-elim (λ w. least-less _ _ h a (w .1 .given .1) (w .3 .taken) (w .4))
+          (⊎-elim (λ w. least-kept _ _ h a (w .1 .given .1) (w .3 .left) (w .4)) (λ w. least-same _ _ h a (w .1 .given .1) (w .2))) (c .match .came),
     )
 
 returns : tie.Need-returns Inv-loop μ-loop
 returns c =
     let l = c .before .before in
-    least-here _ _ _ (l .before .before .pre .1) (l .loop .inv .1) (c .before .loop-test .left) (c .if2 .taken)
+    least-here _ _ (length-tokens _ _ _) (l .before .before .pre .1) (l .loop .inv .1) (c .before .loop-test .left) (c .if2 .taken)
 
 returns-2 : tie.Need-returns-2 Inv-loop μ-loop
 returns-2 c =
     let l = c .before .before in
-    least-over _ _ _ (l .before .before .pre .1) (l .loop .inv .1) (c .before .loop-test .left) (c .if2 .left)
+    least-over _ _ (length-tokens _ _ _) (l .before .before .pre .1) (l .loop .inv .1) (c .before .loop-test .left) (c .if2 .left)
 
 pub equal-token-spec : {M : Type 1} → statement M
 equal-token-spec =

@@ -1,12 +1,7 @@
 -- `sound::layers::united` meets its contract. Assumes nothing.
-use mathlib.Core.Path.{_≡_, sym, ap, _∙_}
-use native.Mathlib.Omega.{arith}
 use borrow.Author.Needs.{needs}
-use borrow.Author.Tests.{eq-eqb, ne-eqb}
 use Rattle.rules.specs.Layer.{setOf}
-use Rattle.sets.specs.Sets.{size}
 use Rattle.layer.specs.Laid.{layerOf}
-use Rattle.sound.specs.Faults.{unitedAt}
 use Rattle.sound.proofs.United.{united-own, united-group}
 use Rattle.sound.proofs.layers.united.Statement.{statement}
 use Rattle.sound.proofs.layers.united.Tie as tie

@@ -8,9 +8,10 @@ use Rattle.rules.specs.Layer.{setOf}
 use Rattle.rules.specs.Bytes.{setsIn}
 use Rattle.rules.specs.Sound.{unitedVertex}
 use Rattle.layer.specs.Laid.{layerOf}
+use Rattle.theorems.proofs.ListLaws.{length-numbered}
 use Rattle.layer.proofs.Search.{Passed, row-here, row-on, row-over}
 use Rattle.layer.proofs.Read.{length-sets}
-use Rattle.sound.proofs.United.{length-numbered, vertex-at, united-row}
+use Rattle.sound.proofs.United.{vertex-at, united-row}
 use Rattle.sound.proofs.layers.ununited.Statement.{statement}
 use Rattle.sound.proofs.layers.ununited.Tie as tie
 
