@@ -1,4 +1,4 @@
--- The search among a layer's tokens and the walk back, as the code takes them: a search by its index, one step of the walk, and what a step makes of the chain.
+-- The walk back as the code takes it: what a search's answer says, one step of the walk, and what a step makes of the chain.
 -- Assumes nothing.
 use Prim.Native.Nat.{ℕ, _+_, _*_, _^_, _≤_, _<_}
 use mathlib.Core.Path.{_≡_, refl, sym, ap, ap₂, _∙_}
@@ -16,11 +16,12 @@ use Rattle.rows.specs.Number.{stored}
 use Rattle.rows.proofs.Laws.{cell-below, stored-add, stored-sets, length-stored}
 use Rattle.rules.specs.Layer.{Layer, token, setOf}
 use Rattle.rules.specs.Bytes.{Bytes, tokensIn}
-use Rattle.rules.specs.Lists.{first}
+use Rattle.rules.specs.Lists.{first, some}
 use Rattle.rules.specs.Open.{tokenAt, back, chain}
 use Rattle.rules.specs.declared.Token.{Token}
+use Rattle.theorems.proofs.ListLaws.{some-first}
 use Rattle.theorems.proofs.DeriveLaws.{a-vertex}
-use Rattle.theorems.proofs.WalkLaws.{first-miss, Climbs, kept-climbs, chain-within, back-row, back-falls, chain-own, chain-step}
+use Rattle.theorems.proofs.WalkLaws.{Climbs, kept-climbs, chain-within, back-row, back-falls, chain-own, chain-step}
 use Rattle.layer.specs.Laid.{Kept, layerOf, foundIn, backFrom}
 use Rattle.layer.specs.declared.walk.Shape.{Shape}
 use Rattle.layer.specs.declared.walk.Back.{Back}
@@ -28,32 +29,10 @@ use Rattle.layer.specs.declared.walk.Back.the-variants.{Own, Through}
 use Rattle.layer.specs.declared.table.Found.{Found}
 use Rattle.layer.specs.declared.table.Found.the-variants.{At, Nothing}
 use Rattle.layer.proofs.Read.{length-sets, length-tokens, set-at}
-use Rattle.layer.proofs.Search.{found-here, found-none}
 
--- ---- a search among the n tokens of a table that has passed i of them, none of which passes the test p
+-- ---- what the answer of a search says
 
-module _ (p : Token → Bool) (w n : ℕ) (ts : List ℕ) where
-  abbrev pub Passed : ℕ → Type 0
-  Passed i = (i ≤ n) × (i ≤ first p (tokensIn w n ts))
-
-  abbrev pub answer : Found
-  answer = foundIn n (first p (tokensIn w n ts))
-
-  -- the answer r of the test at the next token t is yes
-  pub search-here : {t : Token} {r : Bool} {i : ℕ} → Passed i → i < n → t ≡ getD (tokensIn w n ts) i (token 0 0 0) → r ≡ p t → r ≡ true → At i ≡ answer
-  search-here {i = i} h l e a q = found-here p (tokensIn w n ts) (token 0 0 0) n i (h .1) l (ap p (sym e) ∙ sym a ∙ q)
-
-  -- it is no
-  pub search-on : {t : Token} {r : Bool} {i : ℕ} → Passed i → i < n → t ≡ getD (tokensIn w n ts) i (token 0 0 0) → r ≡ p t → r ≡ false → Passed (i + 1)
-  search-on {i = i} h l e a q =
-      let there : i < length (tokensIn w n ts) = rw length-tokens l in
-      omega (arith, first-miss p (tokensIn w n ts) (token 0 0 0) i (h .1) there (ap p (sym e) ∙ sym a ∙ q))
-
-  -- there is no next token
-  pub search-over : {i : ℕ} → Passed i → i ≡ n → Nothing ≡ answer
-  search-over {i} h e = found-none p (tokensIn w n ts) (token 0 0 0) n i (h .1) (omega arith)
-
--- what an answer says of the place
+-- of the place
 pub found-at : {n i j : ℕ} {r : Found} → r ≡ At j → r ≡ foundIn n i → (j < n) × (i ≡ j)
 found-at {n} {i} {j} {r} a e = go (ltb i n) refl e
   where
@@ -61,12 +40,24 @@ found-at {n} {i} {j} {r} a e = go (ltb i n) refl e
     go true q e = let k : i ≡ j = cc in (omega (arith, ltb-true i n q), k)
     go false q e = let z : _≡_ {A = ℕ} 0 1 = cc in absurd (omega arith)
 
-not-found : {n i : ℕ} {r : Found} → r ≡ Nothing → r ≡ foundIn n i → n ≤ i
+pub not-found : {n i : ℕ} {r : Found} → r ≡ Nothing → r ≡ foundIn n i → n ≤ i
 not-found {n} {i} {r} a e = go (ltb i n) refl e
   where
     go : (c : Bool) → ltb i n ≡ c → r ≡ cond c (At i) Nothing → n ≤ i
     go true q e = let z : _≡_ {A = ℕ} 0 1 = cc in absurd (omega arith)
     go false q e = ltb-false i n q
+
+-- of the n rows xs: whether some row passes
+module _ {A : Type 0} (p : A → Bool) (xs : List A) (n : ℕ) (s : length xs ≡ n) {r : Found} (e : r ≡ foundIn n (first p xs)) where
+  pub some-found : {i : ℕ} → r ≡ At i → some p xs ≡ true
+  some-found {i} a =
+      let at : (i < n) × (first p xs ≡ i) = found-at a e in
+      some-first p xs ∙ lt-ltb (first p xs) (length xs) (omega arith)
+
+  pub none-found : r ≡ Nothing → some p xs ≡ false
+  none-found a =
+      let far : n ≤ first p xs = not-found a e in
+      some-first p xs ∙ le-ltb (first p xs) (length xs) (omega arith)
 
 -- ---- one step of the walk back
 

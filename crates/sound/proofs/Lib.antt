@@ -2,3 +2,7 @@ pub mod Answers
 pub mod RuleParts
 pub mod Required
 pub mod Verdicts
+pub mod FaultLaws
+pub mod Reading
+pub mod United
+pub mod Repeats

@@ -137,7 +137,7 @@ fn united(tokens: &[u8], vertices: &[u8], l: Shape, v: usize) -> bool
     if s.size() == 1 {
         return true;
     }
-    sources_into(tokens, vertices, l, 0, v as u16).0 == s.0
+    s.0 == sources_into(tokens, vertices, l, 0, v as u16).0
 }
 
 // S5: the first group vertex whose set is not the union of its sources' sets.
