@@ -2,17 +2,17 @@
 -- Assumes nothing.
 use Prim.Native.Nat.{ℕ, zero, suc, _≤_, _<_}
 use mathlib.Core.Path.{_≡_, refl, sym, ap, _∙_}
-use mathlib.Core.Bool.{Bool, true, false, _&&_, not, cond, true≢false, false≢true, and-true, and-false, Bool·not-not}
+use mathlib.Core.Bool.{Bool, true, false, _&&_, _||_, not, cond, true≢false, false≢true, and-true, and-false, Bool·not-not}
 use mathlib.Core.List.{List, [], _∷_, List·Memᴰ, List·Memᴰ·head, List·Memᴰ·tail}
 use native.Mathlib.Nat.{le-of-suc-le-suc, zero-lt-suc}
 use native.Mathlib.Omega.{arith}
-use lib.Dec.{ltb, leb, leb·zero, leb·suc-suc}
+use lib.Dec.{ltb, leb}
 use lib.ListN.{length, getD, take, length-take}
 use lib.Seq.{getD-take}
 use borrow.Author.Tests.{not-true, not-false, lt-leb, le-leb}
-use Rattle.rules.specs.Lists.{every, some, first, pairwise, numbered, upTo}
+use Rattle.rules.specs.Lists.{every, some, first, pairwise, upTo}
 use Rattle.sets.proofs.Laws.{both}
-use Rattle.theorems.proofs.ListLaws.{every-mem, mem-every, some-mem, mem-some, getD-mem, mem-getD, pairwise-at, upTo-mem, mem-upTo, length-tabulate}
+use Rattle.theorems.proofs.ListLaws.{every-mem, mem-every, some-mem, mem-some, getD-mem, mem-getD, pairwise-at, upTo-mem, mem-upTo, length-upTo, some-first}
 use Rattle.layer.specs.Laid.{foundIn}
 use Rattle.layer.specs.declared.table.Found.{Found}
 use Rattle.layer.specs.declared.table.Found.the-variants.{At, Nothing}
@@ -35,32 +35,22 @@ nothing-past n i = go (ltb i n)
 
 module _ {A : Type 0} where
   -- q finds what breaks p
-  past-every : (p q : A → Bool) → ((x : A) → q x ≡ not (p x)) → (xs : List A) → not (ltb (first q xs) (length xs)) ≡ every p xs
-  unfolding first every
-  past-every p q h [] = refl
-  past-every p q h (x ∷ xs) = rw (h x) (go (p x) (past-every p q h xs))
+  none-every : (p q : A → Bool) → ((x : A) → q x ≡ not (p x)) → (xs : List A) → not (some q xs) ≡ every p xs
+  unfolding some every
+  none-every p q h [] = refl
+  none-every p q h (x ∷ xs) = rw (h x) (go (p x) (none-every p q h xs))
     where
-      go : (b : Bool) → not (ltb (first q xs) (length xs)) ≡ every p xs
-          → not (ltb (cond (not b) zero (suc (first q xs))) (suc (length xs))) ≡ (b && every p xs)
-      go true ih = rw leb·suc-suc ih
-      go false ih = rw (leb·suc-suc, leb·zero)
+      go : (b : Bool) → not (some q xs) ≡ every p xs → not (not b || some q xs) ≡ (b && every p xs)
+      go true ih = ih
+      go false ih = refl
 
   module _ (p : A → Bool) (xs : List A) {n : ℕ} (l : length xs ≡ n) where
     pub none-of : (q : A → Bool) → ((x : A) → q x ≡ not (p x)) → nothing (foundIn n (first q xs)) ≡ every p xs
-    none-of q h = nothing-past n (first q xs) ∙ rw (← l) (past-every p q h xs)
+    none-of q h = nothing-past n (first q xs) ∙ rw (← l, ← some-first q xs) (none-every p q h xs)
 
     -- it finds nothing exactly where every row passes
     pub none-breaks : nothing (foundIn n (first (λ x. not (p x)) xs)) ≡ every p xs
     none-breaks = none-of (λ x. not (p x)) (λ x. refl)
-
-  pub length-numbered : (n : ℕ) (xs : List A) → length (numbered n xs) ≡ length xs
-  unfolding numbered
-  length-numbered n [] = refl
-  length-numbered n (x ∷ xs) = ap suc (length-numbered (suc n) xs)
-
-pub length-upTo : (n : ℕ) → length (upTo n) ≡ n
-unfolding upTo
-length-upTo n = length-tabulate n (λ i. i)
 
 -- ---- a search for a row that is like an earlier one
 

@@ -19,7 +19,7 @@ use Rattle.rules.specs.Bytes.{Tables, bookIn, headOf, setsIn, tokensIn, resourc
 use Rattle.rules.specs.Sound.{joinedSet, placedRow, named, hasOwn, entersGroup, owned, unequal, distinct, risingRow, rising, unitedVertex, united, lateralRow, otherRow, lateral, counts, placed, S1, S2, S3, S4, S5, S6, held, S7, lockedFor, locked, S8, sound}
 use Rattle.rules.specs.declared.Head.{Head}
 use Rattle.rules.specs.declared.Token.{Token}
-use Rattle.theorems.proofs.ListLaws.{every-mem, mem-every}
+use Rattle.theorems.proofs.ListLaws.{every-mem, mem-every, length-numbered, length-upTo}
 use Rattle.theorems.proofs.RuleLaws.{kind-cases}
 use Rattle.theorems.proofs.RowLaws.{outer-plain}
 use Rattle.theorems.proofs.ByteLaws.{head-in}
@@ -31,7 +31,7 @@ use Rattle.sound.specs.Check.{countsOf, nothing, innerShape, outerShape}
 use Rattle.sound.specs.Faults.{placedIn, hasOwnIn, keeps, repeated, sameEnds, again, placedAt, lockedBy}
 use Rattle.sound.specs.declared.layers.Rule.{Rule}
 use Rattle.sound.specs.declared.layers.Rule.the-variants as rule
-use Rattle.sound.proofs.Answers.{none-of, none-breaks, none-alike, unlike, pairwise-same, length-numbered, length-upTo, all, Parts, part}
+use Rattle.sound.proofs.Answers.{none-of, none-breaks, none-alike, unlike, pairwise-same, all, Parts, part}
 
 -- ---- what the searches find
 
@@ -161,7 +161,7 @@ s1-order c a b d e k r h = record { is = rw (h, and-true (c && (a && b) && (d &&
 
 s2-order : (a e b f z : Bool) → Parts ((a && e) && (b && f) && z) (a ∷ b ∷ z ∷ e ∷ f ∷ [])
 unfolding all
-s2-order true e true f z = record { is = and-comm (e && f) z ∙ simp (and-assoc, and-true) }
+s2-order true e true f z = record { is = and-comm (e && f) z ∙ simp and-true }
 s2-order true e false f z = record { is = ap (λ x. x && z) (and-false e) }
 s2-order false e b f z = record { is = refl }
 

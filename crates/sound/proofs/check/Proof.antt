@@ -22,10 +22,16 @@ all-rules-requires : tie.Need-all-rules-requires
 all-rules-requires c κs = counts-room _ _ (c .before .before .before .long-enough .ensures) (c .before .before .if1 .left) (c .before .counts-hold .ensures) (c .if2 .left)
 
 returns-3 : tie.Need-returns-3
-returns-3 c = not-sound _ _ (c .before .before .before .before .before .long-enough .ensures) (c .before .before .before .before .if1 .left) (c .before .all-rules .ensures) (c .if3 .taken)
+returns-3 c =
+    let past2 = c .before .before in
+    let past1 = past2 .before .before in
+    not-sound _ _ (past1 .before .long-enough .ensures) (past1 .if1 .left) (c .before .all-rules .ensures) (c .if3 .taken)
 
 returns-4 : tie.Need-returns-4
-returns-4 c = is-sound _ _ (c .before .before .before .before .before .long-enough .ensures) (c .before .before .before .before .if1 .left) (c .before .all-rules .ensures) (c .if3 .left)
+returns-4 c =
+    let past2 = c .before .before in
+    let past1 = past2 .before .before in
+    is-sound _ _ (past1 .before .long-enough .ensures) (past1 .if1 .left) (c .before .all-rules .ensures) (c .if3 .left)
 
 pub check-spec : {M : Type 1} → statement M
 check-spec =

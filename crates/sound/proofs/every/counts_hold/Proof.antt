@@ -36,7 +36,30 @@ returns-2 c =
     (c .if4 .came)
 
 returns-3 : tie.Need-returns-3
-returns-3 c = let h = c .before .before .before .before .before .before .before .before .before .before .before .before .before .before .before .args .h in last (on (on (on (on (on (on (counts-parts _) refl (under _ _ (c .before .before .before .before .before .before .before .before .before .before .before .before .before .if1 .left))) refl (under (h .users .0) (maxUsers) (ltb-false (maxUsers) (h .users .0) (c .before .before .before .before .before .before .before .before .before .before .before .if2 .left)))) refl (under (h .resources .0) (maxResources) (ltb-false (maxResources) (h .resources .0) (c .before .before .before .before .before .before .before .before .before .if3 .left)))) refl (under _ _ (c .before .before .before .before .before .before .if4 .left))) refl (under (h .«outer_vertices» .0) (h .users .0 + maxGroups) (ltb-false (h .users .0 + maxGroups) (h .«outer_vertices» .0) (c .before .before .before .if5 .left)))) refl (under _ _ (c .before .if6 .taken))) refl
+returns-3 c =
+    let past6 = c .before in
+    let past5 = past6 .before .before in
+    let past4 = past5 .before .before .before in
+    let past3 = past4 .before .before .before in
+    let past2 = past3 .before .before in
+    let past1 = past2 .before .before in
+    let start = past1 .before .before in
+    let h = start .args .h in
+    last
+    (on
+    (on
+    (on
+    (on
+    (on
+    (on
+    (counts-parts _)
+    refl (under _ _ (past1 .if1 .left)))
+    refl (under (h .users .0) (maxUsers) (ltb-false (maxUsers) (h .users .0) (past2 .if2 .left))))
+    refl (under (h .resources .0) (maxResources) (ltb-false (maxResources) (h .resources .0) (past3 .if3 .left))))
+    refl (under _ _ (past4 .if4 .left)))
+    refl (under (h .«outer_vertices» .0) (h .users .0 + maxGroups) (ltb-false (h .users .0 + maxGroups) (h .«outer_vertices» .0) (past5 .if5 .left))))
+    refl (under _ _ (past6 .if6 .taken)))
+    refl
 
 returns-4 : tie.Need-returns-4
 returns-4 c = lt-leb _ _ (c .if6 .left) ∙ stop (counts-parts _) 5 refl (over _ _ (c .if6 .left))

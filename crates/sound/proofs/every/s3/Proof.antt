@@ -28,7 +28,13 @@ nothing-requires-2 : tie.Need-nothing-requires-2
 nothing-requires-2 c κs = search needs
 
 returns-2 : tie.Need-returns-2
-returns-2 c = last (on (s3-parts _ _) (told (c .before .before .before .before .nothing .ensures) (c .before .before .before .before .before .equal-set .ensures)) (c .before .before .before .if1 .left)) (told (c .nothing2 .ensures) (c .before .equal-set2 .ensures))
+returns-2 c =
+    let past1 = c .before .before .before in
+    last
+    (on
+    (s3-parts _ _)
+    (told (past1 .before .nothing .ensures) (past1 .before .before .equal-set .ensures)) (past1 .if1 .left))
+    (told (c .nothing2 .ensures) (c .before .equal-set2 .ensures))
 
 pub s3-spec : {M : Type 1} → statement M
 s3-spec =

@@ -12,7 +12,9 @@ inner-shape-requires : tie.Need-inner-shape-requires
 inner-shape-requires c κs = search needs
 
 token-fault-requires : tie.Need-token-fault-requires
-token-fault-requires c κs = inner-laid _ _ (c .before .before .before .before .before .before .pre .1) (c .inner-shape .ensures) (c .before .before .before .before .before .before .pre .0)
+token-fault-requires c κs =
+    let start = c .before .before .before .before .before .before in
+    inner-laid _ _ (start .pre .1) (c .inner-shape .ensures) (start .pre .0)
 
 nothing-requires : tie.Need-nothing-requires
 nothing-requires c κs = search needs
@@ -24,13 +26,23 @@ outer-shape-requires : tie.Need-outer-shape-requires
 outer-shape-requires c κs = search needs
 
 token-fault-requires-2 : tie.Need-token-fault-requires-2
-token-fault-requires-2 c κs = outer-laid _ _ (c .before .before .before .before .before .before .before .before .before .before .pre .1) (c .outer-shape .ensures) (c .before .before .before .before .before .before .before .before .before .before .pre .0)
+token-fault-requires-2 c κs =
+    let past1 = c .before in
+    let start = past1 .before .before .before .before .before .before .before .before .before in
+    outer-laid _ _ (start .pre .1) (c .outer-shape .ensures) (start .pre .0)
 
 nothing-requires-2 : tie.Need-nothing-requires-2
 nothing-requires-2 c κs = search needs
 
 returns-2 : tie.Need-returns-2
-returns-2 c = last (on (s4-parts _ _ (c .before .before .before .before .before .before .inner-shape .ensures) (c .before .before .outer-shape .ensures)) (told (c .before .before .before .before .nothing .ensures) (c .before .before .before .before .before .token-fault .ensures)) (c .before .before .before .if1 .left)) (told (c .nothing2 .ensures) (c .before .token-fault2 .ensures))
+returns-2 c =
+    let shapes = c .before .before in
+    let past1 = shapes .before in
+    last
+    (on
+    (s4-parts _ _ (past1 .before .before .before .inner-shape .ensures) (shapes .outer-shape .ensures))
+    (told (past1 .before .nothing .ensures) (past1 .before .before .token-fault .ensures)) (past1 .if1 .left))
+    (told (c .nothing2 .ensures) (c .before .token-fault2 .ensures))
 
 pub s4-spec : {M : Type 1} → statement M
 s4-spec =

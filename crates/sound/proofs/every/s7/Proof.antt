@@ -14,7 +14,11 @@ inner-shape-requires : tie.Need-inner-shape-requires
 inner-shape-requires c κs = search needs
 
 unheld-requires : tie.Need-unheld-requires
-unheld-requires c κs = ((c .before .before .before .before .before .before .before .pre .0 .resources, inner-vertices _ _ (c .before .before .before .before .before .before .before .pre .1) (c .inner-shape .ensures)), inner-laid _ _ (c .before .before .before .before .before .before .before .pre .1) (c .inner-shape .ensures) (c .before .before .before .before .before .before .before .pre .0))
+unheld-requires c κs =
+    let start = c .before .before .before .before .before .before .before in (
+      (start .pre .0 .resources, inner-vertices _ _ (start .pre .1) (c .inner-shape .ensures)),
+      inner-laid _ _ (start .pre .1) (c .inner-shape .ensures) (start .pre .0),
+    )
 
 nothing-requires : tie.Need-nothing-requires
 nothing-requires c κs = search needs

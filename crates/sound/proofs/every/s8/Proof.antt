@@ -17,7 +17,11 @@ inner-shape-requires : tie.Need-inner-shape-requires
 inner-shape-requires c κs = search needs
 
 unlocked-requires : tie.Need-unlocked-requires
-unlocked-requires c κs = ((c .before .before .before .before .before .before .before .before .pre .0 .resources, inner-vertices _ _ (c .before .before .before .before .before .before .before .before .pre .1) (c .inner-shape .ensures), outer-vertices _ _ (c .before .before .before .before .before .before .before .before .pre .1)), (inner-laid _ _ (c .before .before .before .before .before .before .before .before .pre .1) (c .inner-shape .ensures) (c .before .before .before .before .before .before .before .before .pre .0), c .before .before .before .before .before .before .before .before .pre .0 .outerVertices))
+unlocked-requires c κs =
+    let start = c .before .before .before .before .before .before .before .before in (
+      (start .pre .0 .resources, inner-vertices _ _ (start .pre .1) (c .inner-shape .ensures), outer-vertices _ _ (start .pre .1)),
+      (inner-laid _ _ (start .pre .1) (c .inner-shape .ensures) (start .pre .0), start .pre .0 .outerVertices),
+    )
 
 nothing-requires : tie.Need-nothing-requires
 nothing-requires c κs = search needs
