@@ -18,7 +18,6 @@ use Rattle.rules.specs.Bytes.{Tables, tables, Room, bookIn, headOf, tokensIn, r
 use Rattle.rules.specs.Sound.{S1, maxUsers, maxResources, maxTokens, maxGroups}
 use Rattle.rules.specs.Refusals.{short}
 use Rattle.rules.specs.declared.Head.{Head}
-use Rattle.rules.specs.declared.Token.{Token}
 use Rattle.theorems.proofs.ListLaws.{every-mem, getD-mem}
 use Rattle.theorems.proofs.SoundLaws.{Counts, counts-are}
 use Rattle.theorems.proofs.ByteLaws.{Long, short-long, head-in}

@@ -1,19 +1,18 @@
 -- S1 to S8 of the book in five tables, each by the searches that the check makes: the rule holds exactly where none of them finds a row.
 -- Assumes nothing.
-use Prim.Native.Nat.{ℕ, _^_, _≤_, _<_}
+use Prim.Native.Nat.{ℕ}
 use mathlib.Core.Path.{_≡_, refl, sym, ap, ap₂, _∙_}
-use mathlib.Core.Bool.{Bool, true, false, _&&_, _||_, not, true≢false, and-true, and-false, and-comm, and-assoc, Bool·not-not}
+use mathlib.Core.Bool.{Bool, true, false, _&&_, not, true≢false, and-true, and-false, and-comm, and-assoc, Bool·not-not}
 use mathlib.Core.Logic.{_⊎_, inl, inr}
 use mathlib.Core.List.{List, [], _∷_, List·Memᴰ}
-use native.Mathlib.Omega.{arith}
 use lib.Dec.{eqb, ltb, leb}
-use lib.ListN.{length, getD}
+use lib.ListN.{length}
 use borrow.Author.Tests.{eqb-true, eq-eqb, leb-true, not-true}
 use Rattle.sets.specs.Sets.{within, inside, size}
 use Rattle.sets.proofs.Laws.{both, inside-within}
 use Rattle.rules.specs.Lists.{every, first, pairwise, numbered, upTo}
 use Rattle.rules.specs.Layer.{Layer, token, setOf}
-use Rattle.rules.specs.Book.{Book, Resource}
+use Rattle.rules.specs.Book.{Book}
 use Rattle.rules.specs.Holders.{holders}
 use Rattle.rules.specs.Bytes.{Tables, bookIn, headOf, setsIn, tokensIn, resourcesIn}
 use Rattle.rules.specs.Sound.{joinedSet, placedRow, named, hasOwn, entersGroup, owned, unequal, distinct, risingRow, rising, unitedVertex, united, lateralRow, otherRow, lateral, counts, placed, S1, S2, S3, S4, S5, S6, held, S7, lockedFor, locked, S8, sound}
