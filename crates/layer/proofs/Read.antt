@@ -11,7 +11,7 @@ use lib.Seq.{take-take, drop-drop, take-nil}
 use Rattle.rows.specs.Number.{number, cell}
 use Rattle.rows.proofs.Laws.{cell-one}
 use Rattle.rows.proofs.Fill.{row-within}
-use Rattle.rows.proofs.Table.{row-at, length-rows}
+use Rattle.rows.proofs.Table.{row-at, length-rows, rows-front}
 use Rattle.rules.specs.Layer.{token, setOf}
 use Rattle.rules.specs.Book.{Resource}
 use Rattle.rules.specs.Bytes.{tokenOf, resourceOf, setsIn, tokensIn, resourcesIn}
@@ -47,6 +47,11 @@ set-at n t v h = row-at 8 number n t v 0 h
 pub length-sets : (n : ℕ) (t : List ℕ) → length (setsIn n t) ≡ n
 unfolding setsIn
 length-sets n t = length-rows 8 number n t
+
+-- the first i vertices
+pub sets-front : (n : ℕ) (t : List ℕ) (i : ℕ) → i ≤ n → take i (setsIn n t) ≡ setsIn i t
+unfolding setsIn
+sets-front n t i h = rows-front 8 number n t i h
 
 pub length-tokens : (w n : ℕ) (t : List ℕ) → length (tokensIn w n t) ≡ n
 unfolding tokensIn

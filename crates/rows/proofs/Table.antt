@@ -59,6 +59,13 @@ module _ {ℓ} {A : Type ℓ} (w : ℕ) (f : List ℕ → A) where
   row-at (suc n) t (suc i) d h =
       row-at n (drop w t) i d (le-of-suc-le-suc h) ∙ rw (drop-drop, next)
 
+  -- the first i rows
+  pub rows-front : (n : ℕ) (t : List ℕ) (i : ℕ) → i ≤ n → take i (rowsOf w f n t) ≡ rowsOf w f i t
+  unfolding rowsOf
+  rows-front n t zero h = refl
+  rows-front zero t (suc i) h = absurd (not-suc-le-zero h)
+  rows-front (suc n) t (suc i) h = ap (λ (l : List A). f (take w t) ∷ l) (rows-front n (drop w t) i (le-of-suc-le-suc h))
+
   -- a row stored over another
   pub rows-stored : (n : ℕ) (t bs : List ℕ) (i : ℕ) → i < n → length bs ≡ w → n * w ≤ length t
       → rowsOf w f n (stored (i * w) bs t) ≡ set (rowsOf w f n t) i (f bs)
