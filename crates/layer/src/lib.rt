@@ -3,3 +3,4 @@ pub mod cover;
 pub mod holders;
 pub mod table;
 pub mod walk;
+pub mod make;
