@@ -169,6 +169,24 @@ module _ {ℓ} {A : Type ℓ} (w : ℕ) (row : A → List ℕ) (f : List ℕ →
         let ln : n * w ≤ length (drop w t) = simp length-drop (omega (arith, next n w)) in
         rw (back (take w t) (length-take-le w t lw) (bytes-take w t b), rows-written n (drop w t) (bytes-drop w t b) ln, next, take-add)
 
+-- rows of the elements xs stored after the last, each of which f reads as g says
+pub rows-added {ℓ ℓ′} : {A : Type ℓ} {B : Type ℓ′} (w : ℕ) (f : List ℕ → A) (row : B → List ℕ) (g : B → A) (xs : List B) (n : ℕ) (t : List ℕ)
+    → ((x : B) → List·Memᴰ x xs → (length (row x) ≡ w) × (f (row x) ≡ g x)) → (n + length xs) * w ≤ length t
+    → rowsOf w f (n + length xs) (stored (n * w) (joined (map row xs)) t) ≡ rowsOf w f n t ++ map g xs
+rows-added w f row g xs n t h l =
+    let m : length (map row xs) ≡ length xs = length-map xs row in
+    ap (λ (k : ℕ). rowsOf w f (n + k) (stored (n * w) (joined (map row xs)) t)) (sym m)
+    ∙ rows-append w f (map row xs) n t (wide xs h) (rw m l)
+    ∙ ap (λ (ys : List _). rowsOf w f n t ++ ys) (read xs h)
+  where
+    wide : (xs : List _) → ((x : _) → List·Memᴰ x xs → (length (row x) ≡ w) × (f (row x) ≡ g x)) → Wide w (map row xs)
+    wide [] h = tt
+    wide (x ∷ xs) h = (h x (List·Memᴰ·head refl) .0, wide xs (λ y m. h y (List·Memᴰ·tail m)))
+
+    read : (xs : List _) → ((x : _) → List·Memᴰ x xs → (length (row x) ≡ w) × (f (row x) ≡ g x)) → map f (map row xs) ≡ map g xs
+    read [] h = refl
+    read (x ∷ xs) h = ap₂ (λ (y : _) (ys : List _). y ∷ ys) (h x (List·Memᴰ·head refl) .1) (read xs (λ y m. h y (List·Memᴰ·tail m)))
+
 -- what holds of every row of at most w bytes
 pub rows-all {ℓ ℓ′} : {A : Type ℓ} (w : ℕ) (f : List ℕ → A) (P : A → Type ℓ′) → ((r : List ℕ) → length r ≤ w → P (f r))
     → (n : ℕ) (t : List ℕ) {x : A} → List·Memᴰ x (rowsOf w f n t) → P x
