@@ -31,7 +31,7 @@ use Rattle.layer.specs.declared.walk.Shape.{Shape}
 use Rattle.layer.specs.declared.make.Made.{Made}
 use Rattle.layer.specs.declared.table.Found.{Found}
 use Rattle.layer.specs.declared.table.Found.the-variants.{At, Nothing}
-use Rattle.layer.proofs.Read.{length-sets, length-tokens}
+use Rattle.layer.proofs.Read.{length-sets, layer-sets, layer-tokens}
 use Rattle.layer.proofs.Write.{length-token-row}
 use Rattle.layer.proofs.Steps.{found-at, not-found}
 
@@ -123,13 +123,9 @@ module _ (l : Shape) (s at kv kt : ℕ) (ts vs os : List ℕ) where
   abbrev L : Layer
   L = layerOf l ts vs
 
-  pub length-of-sets : length (layerOf l ts vs .sets) ≡ l .vertices
-  unfolding layerOf
-  length-of-sets = length-sets (l .vertices) vs
-
-  length-of-tokens : length (layerOf l ts vs .tokens) ≡ l .tokens
-  unfolding layerOf
-  length-of-tokens = length-tokens (l .width) (l .tokens) ts
+  -- the cover, by the sets alone
+  abbrev P : List ℕ
+  P = coverOf (setsIn (l .vertices) vs) s
 
   -- "a vertex whose set is already there is used and no row is added"
   pub left-there : {v : ℕ} → vertexFor (layerOf l ts vs) s ≡ v → found (layerOf l ts vs) s ≡ true → VertexFor l s at kv kt ts vs os (made v l at) ts vs os
@@ -141,8 +137,8 @@ module _ (l : Shape) (s at kv kt : ℕ) (ts vs os : List ℕ) where
         vertex = sym q;
         layer = sym w;
         width = refl;
-        tokens = rw w (sym length-of-tokens);
-        vertices = rw w (sym length-of-sets);
+        tokens = rw w (sym (layer-tokens l ts vs));
+        vertices = rw w (sym (layer-sets l ts vs));
         tokens-rest = refl;
         vertices-rest = refl;
         tokens-length = refl;
@@ -153,18 +149,15 @@ module _ (l : Shape) (s at kv kt : ℕ) (ts vs os : List ℕ) where
 
   -- the set is new, and its cover counted
   module _ (f : Fits l ts vs s os at) (new : found (layerOf l ts vs) s ≡ false) {count : ℕ} (e : count ≡ length (coverOf (setsIn (l .vertices) vs) s)) where
-    pub room-vertex : (l .vertices + 1) * 8 ≤ length vs
-    room-vertex = omega (arith, f .sets-then, withVertex-vertices L s, adds-one L s new .0, length-of-sets)
-
-    pub room-tokens : (l .tokens + count) * l .width ≤ length ts
+    pub room : ((l .vertices + 1) * 8 ≤ length vs) × ((l .tokens + count) * l .width ≤ length ts) × ((at + 1 + count) * 3 ≤ length os)
     unfolding cover layerOf
-    room-tokens =
-        let n : length (withVertex L s .tokens) ≡ l .tokens + count = omega (arith, withVertex-tokens L s, adds-one L s new .1, length-of-tokens) in
-        rw n at (f .rows-then)
-
-    pub room-orders : (at + 1 + count) * 3 ≤ length os
-    unfolding cover layerOf
-    room-orders = omega (arith, f .orders-then, vertexOrders-count 0 0 L s, adds-one L s new .0, adds-one L s new .1)
+    room =
+        let (one, rest) = adds-one L s new in
+        let n : length (withVertex L s .tokens) ≡ l .tokens + count = omega (arith, withVertex-tokens L s, rest, layer-tokens l ts vs) in (
+          omega (arith, f .sets-then, withVertex-vertices L s, one, layer-sets l ts vs),
+          rw n at (f .rows-then),
+          omega (arith, f .orders-then, vertexOrders-count 0 0 L s, one, rest),
+        )
 
   module _ (new : found (layerOf l ts vs) s ≡ false) where
     layer-new : withVertex (layerOf l ts vs) s
@@ -173,9 +166,48 @@ module _ (l : Shape) (s at kv kt : ℕ) (ts vs os : List ℕ) where
           tokens = tokensIn (l .width) (l .tokens) ts ++ map (λ v. token v (l .vertices) 0) (coverOf (setsIn (l .vertices) vs) s);
         }
     unfolding withVertex cover layerOf
-    layer-new = rw (new, length-of-sets)
+    layer-new = rw (new, length-sets)
 
     orders-new : vertexFor (layerOf l ts vs) s ≡ l .vertices
         → vertexOrders kv kt (layerOf l ts vs) s ≡ order kv (l .vertices) 0 ∷ map (λ v. order kt v (l .vertices)) (coverOf (setsIn (l .vertices) vs) s)
     unfolding vertexOrders cover layerOf
     orders-new q = rw (new, q)
+
+  -- what is stored, by the lists that the tables have then
+  module _ {count : ℕ} {c vs′ ts′ os₁ os′ : List ℕ} (f : Fits l ts vs s os at) (small : s < 2 ^ 64) (q : vertexFor (layerOf l ts vs) s ≡ l .vertices)
+      (new : found (layerOf l ts vs) s ≡ false) (n : count ≡ length (P)) (taken : c ≡ P)
+      (v : vs′ ≡ stored (l .vertices * 8) (setRow s) vs) (t : ts′ ≡ stored (l .tokens * l .width) (coverBytes (l .width) (l .vertices) (c)) ts)
+      (o : os₁ ≡ stored (at * 3) (orderOf kv (l .vertices) 0) os) (p : os′ ≡ stored ((at + 1) * 3) (coverOrders kt (l .vertices) (c)) os₁) where
+    tokens-are : ts′ ≡ stored (l .tokens * l .width) (coverBytes (l .width) (l .vertices) P) ts
+    tokens-are = rw taken at t
+
+    ends : l .tokens * l .width + length (coverBytes (l .width) (l .vertices) P) ≡ (l .tokens + count) * l .width
+    ends = rw (length-cover (l .width) (l .vertices) P (f .low) (f .high), ← n) (sym (add-mul (l .tokens) count (l .width)))
+
+    below : (x : ℕ) → List·Memᴰ x P → x < 65536
+    below x m = omega (arith, cover-inside (record { sets = setsIn (l .vertices) vs; tokens = [] }) s x m .0, length-sets (l .vertices) vs, f .vertices<)
+
+    pub left-new : VertexFor l s at kv kt ts vs os (made (l .vertices) (shape (l .width) (l .tokens + count) (l .vertices + 1)) (at + 1 + count)) ts′ vs′ os′
+    unfolding cover layerOf
+    left-new =
+        let (one, rest) = adds-one L s new in
+        let (vertex, tokens, orders) = room f new n in
+        record {
+          vertex = sym q;
+          layer =
+              ap₂ (λ (x : List ℕ) (y : List Token). record { sets = x; tokens = y })
+              (rw v (sets-made (l .vertices) s vs small (f .sets)))
+              (rw (tokens-are, n) (tokens-made (l .width) (l .vertices) P (f .low) (f .high) (l .tokens) ts (omega (arith, f .vertices<)) below (rw n at tokens)))
+              ∙ sym (layer-new new);
+          width = refl;
+          tokens = omega (arith, withVertex-tokens L s, rest, layer-tokens l ts vs);
+          vertices = omega (arith, withVertex-vertices L s, one, layer-sets l ts vs);
+          tokens-rest = rw tokens-are (stored-rest ((l .tokens + count) * l .width) (l .tokens * l .width) (coverBytes (l .width) (l .vertices) P) ts (omega (arith, ends)) (f .rows));
+          vertices-rest = rw v (stored-rest ((l .vertices + 1) * 8) (l .vertices * 8) (setRow s) vs (omega (arith, set-wide s)) (f .sets));
+          tokens-length = rw tokens-are (length-stored (l .tokens * l .width) (coverBytes (l .width) (l .vertices) P) ts (omega (arith, ends)));
+          vertices-length = rw v (length-stored (l .vertices * 8) (setRow s) vs (omega (arith, set-wide s, vertex)));
+          orders =
+              rw (p, o, taken) (orders-made at kv kt (l .vertices) P os (rw n at orders))
+              ∙ ap (λ (x : List _). stored (at * 3) (orderRows x) os) (sym (orders-new new q));
+          next = omega (arith, vertexOrders-count kv kt L s, one, rest);
+        }

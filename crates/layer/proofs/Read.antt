@@ -95,6 +95,10 @@ module _ (l : Shape) (ts vs : List ℕ) where
   unfolding layerOf
   layer-tokens = length-tokens (l .width) (l .tokens) ts
 
+  pub layer-sets : length (layerOf l ts vs .sets) ≡ l .vertices
+  unfolding layerOf
+  layer-sets = length-sets (l .vertices) vs
+
   pub layer-set : (v : ℕ) → setOf (layerOf l ts vs) v ≡ getD (setsIn (l .vertices) vs) v 0
   unfolding layerOf setOf
   layer-set v = refl
