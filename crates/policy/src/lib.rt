@@ -1,0 +1,2 @@
+// The requests: check, plan, apply. Nothing is written before every refusal is excluded.
+pub mod write;
