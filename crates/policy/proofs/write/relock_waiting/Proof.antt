@@ -64,10 +64,10 @@ loop-again c =
     let s = l .before .before .before in (
       omega arith,
       ⊎-elim
-      (λ w. same-run _ _ _ _ _ _ _ _ (w .8) (w .9) (w .10)
-      (run-yes _ _ _ _ _ _ _ _ (l .loop .inv .1) (s .pre .1) (test .before .before .loop-test .taken) (test .waits .ensures) (w .0 .taken) (w .3 .ensures .0) (w .3 .ensures .1)))
-      (λ w. same-run _ _ _ _ _ _ _ _ (w .1) (w .2) (w .3) (run-no _ _ _ _ _ _ _ _ (l .loop .inv .1) (test .waits .ensures) (w .0 .left)))
-      (c .if1 .came),
+          (λ w. same-run _ _ _ _ _ _ _ _ (w .8) (w .9) (w .10)
+          (run-yes _ _ _ _ _ _ _ _ (l .loop .inv .1) (s .pre .1) (test .before .before .loop-test .taken) (test .waits .ensures) (w .0 .taken) (w .3 .ensures .0) (w .3 .ensures .1)))
+          (λ w. same-run _ _ _ _ _ _ _ _ (w .1) (w .2) (w .3) (run-no _ _ _ _ _ _ _ _ (l .loop .inv .1) (test .waits .ensures) (w .0 .left)))
+          (c .if1 .came),
     )
 
 same-length : tie.Need-same-length Inv-loop μ-loop
