@@ -86,7 +86,7 @@ lockPart L s n = part (newVertices L s) (newTokens L s) (newVertices L s + newTo
 
 -- the folder itself: its outer key, if any, is taken off, or it is locked for s
 unfoldable pub settledPart : Bool → ℕ → Layer → ℕ → Part
-settledPart free outer L s = cond free (part 0 0 (cond (eqb outer book.none) 0 1)) (lockPart L s 1)
+settledPart free outer L s = cond free (part 0 0 (cond (not (eqb outer book.none)) 1 0)) (lockPart L s 1)
 
 -- n neighbours that wait for a vertex for s
 unfoldable pub groupPart : ℕ → Layer → ℕ → Part
