@@ -9,7 +9,7 @@ use native.Mathlib.Omega.{arith}
 use lib.Dec.{eqb, ltb, leb}
 use lib.ListN.{length, getD, length-append}
 use borrow.Author.Tests.{eq-eqb, ne-eqb, lt-ltb, le-ltb, le-leb, lt-leb, ltb-true, eqb-false}
-use Rattle.sets.specs.Sets.{has, single, union}
+use Rattle.sets.specs.Sets.{has, single, union, minus}
 use Rattle.rules.specs.Lists.{keep, upTo}
 use Rattle.rules.specs.Layer.{Layer, found, vertexFor, cover, withVertex}
 use Rattle.rules.specs.Book.{Book, Resource, resource, hasOuter}
@@ -40,7 +40,7 @@ use Rattle.policy.specs.declared.judge.After.{After}
 use Rattle.policy.specs.declared.judge.Part.{Part}
 use Rattle.policy.specs.Write.{waitsIn, waitersIn}
 use Rattle.policy.specs.Judge.{Ready, plan, planOf, judgedBy, judged, limited, holdersAre, innerShape, part, lockPart, settledPart, groupPart, joint, afterOf, waitersOf, grantPlan}
-use Rattle.policy.proofs.ReadyLaws.{bookOf, sizes, users-count, mode-count, resources-count, outer-count, inner-tokens-count, outer-tokens-count, outer-new, inner-new, inner-layer, row-read, such-told}
+use Rattle.policy.proofs.ReadyLaws.{bookOf, Sizes, sizes, users-count, mode-count, resources-count, outer-count, inner-tokens-count, outer-tokens-count, outer-new, inner-new, inner-layer, row-read, such-told}
 
 -- ---- the verdict
 
@@ -163,6 +163,10 @@ module _ (h : Head) (iv it ov ot rs : List ℕ) where
   unfolding planOf
   insert-plan-is l = refl
 
+  grant-plan-is : (r u : ℕ) → grantPlan (h .mode .0) (holders (layerOf (innerShape h) it iv) (resource b r .inner)) (resource b r .list) u ≡ planOf (grants r u) b
+  unfolding planOf agreed holdersOf layerOf bookIn
+  grant-plan-is r u = refl
+
   insert-passed : (l : ℕ) → l < 2 ^ h .users .0 → (l ≡ 0 → ⊥) → h .resources .0 < 256 → verdict (own (inserts l) b) ≡ none
   unfolding own verdict
   insert-passed l lb some′ few =
@@ -227,8 +231,8 @@ module _ (h : Head) (iv it ov ot rs : List ℕ) where
 
     -- ---- each request, with the callees' answers as premises
 
-    module _ (room : ℕ) {j : Judged} where
-      pub insert-judged : (l : ℕ) {free : Bool} {i : New} {s : Part} {a : After} → l < 2 ^ h .users .0 → (l ≡ 0 → ⊥) → h .resources .0 < 256
+    module _ (room : ℕ) where
+      pub insert-judged : (l : ℕ) {free : Bool} {i : New} {s : Part} {a : After} {j : Judged} → l < 2 ^ h .users .0 → (l ≡ 0 → ⊥) → h .resources .0 < 256
           → free ≡ (eqb (h .mode .0) 1 && holdersAre (layerOf (innerShape h) it iv) l)
           → i .vertices ≡ newVertices (setsOnly (h .«inner_vertices» .0) iv) l → i .tokens ≡ newTokens (setsOnly (h .«inner_vertices» .0) iv) l
           → s ≡ settledPart free book.none sets l
@@ -248,3 +252,113 @@ module _ (h : Head) (iv it ov ot rs : List ℕ) where
 
           after : a ≡ afterOf h (newTokens (b .inner) l) (newVertices (b .inner) l + newTokens (b .inner) l + 1) (settledPart (insertFree l b) book.none (b .outer) l)
           after = ea ∙ rw (es, ev, et, is-free, inner-new h iv it ov ot rs l .0, inner-new h iv it ov ot rs l .1, settled-in (insertFree l b) book.none l)
+
+      pub insert-no-such : (l : ℕ) → ltb l (2 ^ h .users .0) ≡ false → No NoSuch ≡ judged (inserts l) b room
+      unfolding own verdict
+      insert-no-such l e = judged-no (inserts l) b room (rw (users-count h iv it ov ot rs, e))
+
+      pub insert-empty : (l : ℕ) → ltb l (2 ^ h .users .0) ≡ true → l ≡ 0 → No EmptyList ≡ judged (inserts l) b room
+      unfolding own verdict
+      insert-empty l e q = judged-no (inserts l) b room (rw (users-count h iv it ov ot rs, e, eq-eqb l 0 q))
+
+      pub insert-full : (l : ℕ) → ltb l (2 ^ h .users .0) ≡ true → (l ≡ 0 → ⊥) → 256 ≤ h .resources .0 → No ResourcesFull ≡ judged (inserts l) b room
+      unfolding own verdict
+      insert-full l e n m =
+          judged-no (inserts l) b room
+          (rw (users-count h iv it ov ot rs, resources-count h iv it ov ot rs, e, ne-eqb l 0 n, le-leb 256 (h .resources .0) m))
+
+      -- after a join of a sound book 7, 8 and 9 never hold
+      join-verdict : h .users .0 < 64 → verdict (own joins b ++ limits room (work joins b)) ≡ cond (ltb room 2) (some ShortList) none
+      unfolding own limits work join withSet done verdict
+      join-verdict few =
+          let c : Sizes h (tables iv it ov ot rs) = sizes h iv it ov ot rs ready in
+          rw (
+            lt-leb 64 (b .users) (omega (arith, users-count h iv it ov ot rs)),
+            le-ltb (suc (b .users) + 448) (length (b .outer .sets ++ (single (b .users) ∷ [])))
+                (omega (arith, users-count h iv it ov ot rs, outer-count h iv it ov ot rs, length-append (b .outer .sets) (single (b .users) ∷ []))),
+            le-ltb 4096 (length (b .inner .tokens)) (omega (arith, inner-tokens-count h iv it ov ot rs)),
+            le-ltb 4096 (length (b .outer .tokens)) (omega (arith, outer-tokens-count h iv it ov ot rs)),
+          )
+
+      pub join-full : 64 ≤ h .users .0 → No UsersFull ≡ judged joins b room
+      unfolding own verdict
+      join-full m = judged-no joins b room (rw (users-count h iv it ov ot rs, le-leb 64 (h .users .0) m))
+
+      pub join-short : h .users .0 < 64 → room < 2 → No ShortList ≡ judged joins b room
+      unfolding judged judgedBy
+      join-short few m = rw (join-verdict few, lt-ltb room 2 m)
+
+      pub join-judged : h .users .0 < 64 → 2 ≤ room → Go (plan false false 0) ≡ judged joins b room
+      unfolding judged judgedBy planOf
+      join-judged few m = rw (join-verdict few, le-ltb room 2 m)
+
+      -- grant and revoke: z and y are the code's tests for 1 and for 5 and 6, x the row that was read
+      module _ (r u : ℕ) {z : Bool} (ez : z ≡ not (ltb u (h .users .0) && ltb r (h .resources .0))) where
+        pub grant-no-such : z ≡ true → No NoSuch ≡ judged (grants r u) b room
+        unfolding own verdict
+        grant-no-such e = judged-no (grants r u) b room (rw (sym (such-told h iv it ov ot rs r u ez) ∙ e))
+
+        pub revoke-no-such : z ≡ true → No NoSuch ≡ judged (revokes r u) b room
+        unfolding own verdict
+        revoke-no-such e = judged-no (revokes r u) b room (rw (sym (such-told h iv it ov ot rs r u ez) ∙ e))
+
+        module _ (ok : z ≡ false) {x : Resource} (ex : x ≡ getD (resourcesIn (h .resources .0) rs) r noResource) {y : Bool} (ey : y ≡ has (x .list) u) where
+          exists : noSuch b u r ≡ false
+          exists = sym (such-told h iv it ov ot rs r u ez) ∙ ok
+
+          row : x ≡ resource b r
+          row = row-read h iv it ov ot rs r ex
+
+          test : {w : Bool} → y ≡ w → has (resource b r .list) u ≡ w
+          test e = ap (λ (a : Resource). has (a .list) u) (sym row) ∙ sym ey ∙ e
+
+          pub grant-listed : y ≡ true → No Listed ≡ judged (grants r u) b room
+          unfolding own verdict
+          grant-listed e = judged-no (grants r u) b room (rw (exists, test e))
+
+          pub revoke-unlisted : y ≡ false → No NotListed ≡ judged (revokes r u) b room
+          unfolding own verdict
+          revoke-unlisted e = judged-no (revokes r u) b room (rw (exists, test e))
+
+          grant-passed : y ≡ false → verdict (own (grants r u) b) ≡ none
+          unfolding own verdict
+          grant-passed e = rw (exists, test e)
+
+          revoke-passed : y ≡ true → verdict (own (revokes r u) b) ≡ none
+          unfolding own verdict
+          revoke-passed e = rw (exists, test e)
+
+          pub revoke-judged : {l : ℕ} {s : Part} {a : After} {j : Judged} → y ≡ true → l ≡ minus (x .list) (single u) → s ≡ lockPart sets l 1 → a ≡ afterOf h 0 0 s
+              → j ≡ limited a room (plan false false 0) → j ≡ judged (revokes r u) b room
+          unfolding planOf
+          revoke-judged {l} {s} {a} e el es ea ej =
+              ej
+              ∙ judged-limited (revokes r u) b room a (plan false false 0) (revoke-passed e)
+              (subst (Leaves (work (revokes r u) b)) (sym after) (revoke-leaves r u (such b u r exists .1) (test e))) refl
+            where
+              after : a ≡ afterOf h 0 0 (lockPart (b .outer) (revokedList r u b) 1)
+              after = ea ∙ ap (afterOf h 0 0) (es ∙ lock-in l 1 ∙ ap (λ (k : ℕ). lockPart (b .outer) k 1) (el ∙ ap (λ (w : Resource). minus (w .list) (single u)) row))
+
+          pub grant-judged : {l : ℕ} {p : Plan} {s : Part} {a : After} {j : Judged} → y ≡ false
+              → p ≡ grantPlan (h .mode .0) (holders (layerOf (innerShape h) it iv) (x .inner)) (x .list) u
+              → l ≡ union (x .list) (single u)
+              → s ≡ joint (groupPart (length (waitersOf h rs r (x .inner) p)) sets (p .holders .0)) (settledPart (p .free) (x .outer) sets l)
+              → a ≡ afterOf h (cond (p .token) 1 0) (cond (p .token) 1 0) s
+              → j ≡ limited a room p → j ≡ judged (grants r u) b room
+          unfolding planOf
+          grant-judged {l} {p} {s} {a} e ep el es ea ej =
+              ej
+              ∙ judged-limited (grants r u) b room a p (grant-passed e)
+              (subst (Leaves (work (grants r u) b)) (sym after) (grant-leaves r u (such b u r exists .1) (such b u r exists .0) (test e))) planned
+            where
+              planned : p ≡ planOf (grants r u) b
+              planned = ep ∙ ap (λ (w : Resource). grantPlan (h .mode .0) (holders (layerOf (innerShape h) it iv) (w .inner)) (w .list) u) row ∙ grant-plan-is r u
+
+              parted : s ≡ joint (groupPart (length (waiters b r u)) (b .outer) (holdersOf b r)) (settledPart (agreed r u b) (resource b r .outer) (b .outer) (grantedList r u b))
+              parted =
+                  es
+                  ∙ rw (planned, el, row, waiters-in r u, group-in (length (waiters b r u)) (holdersOf b r), settled-in (agreed r u b) (resource b r .outer) (grantedList r u b))
+
+              after : a ≡ afterOf h (cond (not (has (holdersOf b r) u)) 1 0) (cond (not (has (holdersOf b r) u)) 1 0)
+                  (joint (groupPart (length (waiters b r u)) (b .outer) (holdersOf b r)) (settledPart (agreed r u b) (resource b r .outer) (b .outer) (grantedList r u b)))
+              after = ea ∙ rw (parted, planned)
