@@ -1,38 +1,30 @@
+-- `policy::judge::holders_are` meets its contract. Assumes nothing.
+use native.Mathlib.Omega.{arith}
+use Rattle.policy.proofs.PartLaws.{holders-there, holders-found, holders-new}
 use borrow.Author.Needs.{needs}
 use Rattle.policy.proofs.judge.holders_are.Statement.{statement}
 use Rattle.policy.proofs.judge.holders_are.Tie as tie
-use Rattle.policy.proofs.judge.holders_are.Reads as reads
-use Rattle.policy.proofs.judge.holders_are.Lts as lts
-use Rattle.layer.proofs.table.find_set.Reads as find-set-reads
-use Rattle.policy.proofs.judge.all_holders.Reads as all-holders-reads
 
--- src/judge.rt:211:9
 find-set-requires : tie.Need-find-set-requires
 find-set-requires c κs = search needs
 
--- src/judge.rt:213:19
 enum-known-found : tie.Need-enum-known-found
 enum-known-found c = search needs
 
--- src/judge.rt:213:48
 cast-all-holders : tie.Need-cast-all-holders
-cast-all-holders c = ?
+cast-all-holders c = omega (arith, holders-there _ (c .before .before .before .before .before .before .args .it .now) _ _ (c .before .before .before .find-set .ensures) (c .before .found .given .1), c .before .before .before .before .before .before .pre .1)
 
--- src/judge.rt:213:25
 all-holders-requires : tie.Need-all-holders-requires
-all-holders-requires c κs = ?
+all-holders-requires c κs = (c .before .before .before .before .before .before .pre .0, holders-there _ (c .before .before .before .before .before .before .args .it .now) _ _ (c .before .before .before .find-set .ensures) (c .before .found .given .1))
 
--- src/judge.rt:214:27
 enum-told : tie.Need-enum-told
 enum-told c = search needs
 
--- src/judge.rt:206:1
 returns : tie.Need-returns
-returns c = ?
+returns c = holders-found _ _ _ _ (c .before .before .before .before .before .before .find-set .ensures) (c .before .before .before .before .found .given .1) (c .before .before .all-holders .ensures)
 
--- src/judge.rt:206:1
 returns-2 : tie.Need-returns-2
-returns-2 c = ?
+returns-2 c = holders-new _ _ _ _ (c .before .before .find-set .ensures) (c .enum-told .given .1)
 
 pub holders-are-spec : {M : Type 1} → statement M
 holders-are-spec =

@@ -1,29 +1,25 @@
+-- `policy::judge::waiting` meets its contract. Assumes nothing.
+use borrow.Author.Tests.{not-true, not-false}
+use native.Mathlib.Omega.{arith}
+use Rattle.policy.proofs.PartLaws.{waiting-full, waiting-held, waiting-some}
 use borrow.Author.Needs.{needs}
 use Rattle.policy.proofs.judge.waiting.Statement.{statement}
 use Rattle.policy.proofs.judge.waiting.Tie as tie
-use Rattle.policy.proofs.judge.waiting.Reads as reads
-use Rattle.policy.proofs.judge.waiting.Lts as lts
-use Rattle.policy.proofs.write.count_waiting.Reads as count-waiting-reads
 
--- src/judge.rt:141:9
 returns : tie.Need-returns
-returns c = ?
+returns c = (waiting-full _ _ _ _ _ (c .if1 .taken), omega arith)
 
--- src/judge.rt:144:9
 returns-2 : tie.Need-returns-2
-returns-2 c = ?
+returns-2 c = (waiting-held _ _ _ _ (c .before .before .before .before .before .args .p) (not-true _ (c .if2 .taken)), omega arith)
 
--- src/judge.rt:146:23
 cast-count-waiting : tie.Need-cast-count-waiting
 cast-count-waiting c = search needs
 
--- src/judge.rt:146:5
 count-waiting-requires : tie.Need-count-waiting-requires
 count-waiting-requires c κs = search needs
 
--- src/judge.rt:135:1
 returns-3 : tie.Need-returns-3
-returns-3 c = ?
+returns-3 c = let s = c .before .before .before .before .before .before .before in waiting-some _ _ _ _ (s .args .p) (c .before .before .before .before .if1 .left) (not-false _ (c .before .before .if2 .left)) (omega (arith, s .good)) (c .count-waiting .ensures)
 
 pub waiting-spec : {M : Type 1} → statement M
 waiting-spec =
