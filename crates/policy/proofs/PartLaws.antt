@@ -9,8 +9,9 @@ use native.Mathlib.Nat.{zero-add}
 use native.Mathlib.Omega.{arith}
 use lib.Dec.{eqb, ltb, leb}
 use lib.ListN.{length}
-use borrow.Author.Tests.{eq-eqb, ne-eqb, lt-ltb, le-ltb, le-leb, lt-leb, ltb-true, ltb-false}
+use borrow.Author.Tests.{eq-eqb, ne-eqb, lt-ltb, le-ltb, le-leb, lt-leb, ltb-true, ltb-false, not-false}
 use Rattle.sets.specs.Sets.{has, single, union}
+use Rattle.sets.proofs.Laws.{both}
 use Rattle.rules.specs.Lists.{keep, upTo, tabulate, first}
 use Rattle.rules.specs.Layer.{Layer, setOf, found, vertexFor}
 use Rattle.rules.specs.Book as book
@@ -22,7 +23,7 @@ use Rattle.rules.specs.declared.Refusal.the-variants.{GroupsFull, InnerTokensFu
 use Rattle.theorems.specs.Plan.{newVertices, newTokens}
 use Rattle.theorems.proofs.ListLaws.{length-tabulate}
 use Rattle.theorems.proofs.NeighbourLaws.{length-keep}
-use Rattle.layer.specs.Laid.{layerOf, foundIn, isSet}
+use Rattle.layer.specs.Laid.{Laid, layerOf, foundIn, isSet}
 use Rattle.layer.specs.declared.table.Found.{Found}
 use Rattle.layer.specs.declared.table.Found.the-variants.{At, Nothing}
 use Rattle.layer.specs.declared.walk.Shape.{Shape}
@@ -76,6 +77,12 @@ module _ (u n r m : ℕ) where
       go : (z : Bool) → ltb r m ≡ z → leb m r ≡ not z
       go true e = lt-leb m r (ltb-true r m e)
       go false e = le-leb m r (ltb-false r m e)
+
+  -- both are there
+  pub there : {z : Bool} → z ≡ not (ltb u n && ltb r m) → z ≡ false → (u < n) × (r < m)
+  there e f =
+      let (x, y) = both (ltb u n) (ltb r m) (not-false (ltb u n && ltb r m) (sym e ∙ f)) in
+      (ltb-true u n x, ltb-true r m y)
 
 -- ---- the parts
 
@@ -133,6 +140,10 @@ module _ (h : Head) (token : Bool) (p : Part) {a : After} where
   pub after-none : token ≡ false → a ≡ afterOf h 0 0 p → a ≡ afterOf h (cond token 1 0) (cond token 1 0) p
   after-none e q = rw e q
 
+-- no request but a join changes the users
+pub users-within : (h : Head) (t n : ℕ) (p : Part) {a : After} → a ≡ afterOf h t n p → h .users .0 ≤ 64 → a .users ≤ 64
+users-within h t n p e few = rw e few
+
 -- ---- the holders
 
 pub holders-by : (L : Layer) (v : ℕ) {x y z : ℕ} → x ≡ setOf L v → y ≡ byToken L v → z ≡ union x y → z ≡ holders L v
@@ -164,3 +175,23 @@ module _ (m hs list u : ℕ) {y : Bool} {k : ℕ} (ey : y ≡ has k u) (ek : k �
 
   pub plan-delta : {a c : ℕ} → m ≡ 1 → a ≡ union k (single u) → c ≡ union list (single u) → plan (eqb a c) (not y) k ≡ grantPlan m hs list u
   plan-delta n ea ec = rw (eq-eqb m 1 n, ea, ec, ey, ek)
+
+-- ---- the inner layer's shape, as the code makes it
+
+module _ (h : Head) (it iv : List ℕ) {i : Shape} (e : i ≡ innerShape h) where
+  pub shape-laid : Laid (innerShape h) it iv → Laid i it iv × (i .vertices ≡ h .«inner_vertices» .0)
+  shape-laid p = rw e (p, refl)
+
+  pub shape-holders : (v : ℕ) {k : ℕ} → k ≡ holders (layerOf i it iv) v → k ≡ holders (layerOf (innerShape h) it iv) v
+  shape-holders v q = q ∙ ap (λ (s : Shape). holders (layerOf s it iv) v) e
+
+  pub free-delta : (l : ℕ) {r : Bool} → h .mode .0 ≡ 1 → r ≡ holdersAre (layerOf i it iv) l
+      → r ≡ (eqb (h .mode .0) 1 && holdersAre (layerOf (innerShape h) it iv) l)
+  free-delta l m q = rw (eq-eqb (h .mode .0) 1 m) (q ∙ ap (λ (s : Shape). holdersAre (layerOf s it iv) l) e)
+
+pub free-full : (m : ℕ) (z : Bool) → m ≢ 1 → false ≡ (eqb m 1 && z)
+free-full m z n = rw (ne-eqb m 1 n)
+
+-- the neighbours' part and the folder's
+pub joint-parts : (L : Layer) (s : ℕ) {n k : ℕ} {p q r : Part} → p ≡ q → n ≡ k → r ≡ joint (groupPart n L s) p → r ≡ joint (groupPart k L s) q
+joint-parts L s e m o = o ∙ ap₂ (λ (x : ℕ) (y : Part). joint (groupPart x L s) y) m e

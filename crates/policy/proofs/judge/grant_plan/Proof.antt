@@ -1,40 +1,30 @@
+-- `policy::judge::grant_plan` meets its contract. Assumes nothing.
+use native.Mathlib.Omega.{arith}
+use Rattle.policy.proofs.PartLaws.{plan-full, plan-delta, shape-laid, shape-holders}
 use borrow.Author.Needs.{needs}
 use Rattle.policy.proofs.judge.grant_plan.Statement.{statement}
 use Rattle.policy.proofs.judge.grant_plan.Tie as tie
-use Rattle.policy.proofs.judge.grant_plan.Reads as reads
-use Rattle.policy.proofs.judge.grant_plan.Lts as lts
-use Rattle.policy.proofs.judge.all_holders.Reads as all-holders-reads
-use Rattle.policy.proofs.plan.inner_shape.Reads as inner-shape-reads
-use Rattle.sets.proofs.Users.has.Reads as has-reads
-use Rattle.sets.proofs.Users.with.Reads as with-reads
 
--- src/judge.rt:309:39
 inner-shape-requires : tie.Need-inner-shape-requires
 inner-shape-requires c κs = search needs
 
--- src/judge.rt:309:9
 all-holders-requires : tie.Need-all-holders-requires
-all-holders-requires c κs = ?
+all-holders-requires c κs = let s = c .before .before .before in let laid = shape-laid (s .args .h) _ _ (c .inner-shape .ensures) (s .pre .0) in (laid .0, omega (arith, laid .1, s .pre .1))
 
--- src/judge.rt:310:18
 has-requires : tie.Need-has-requires
 has-requires c κs = search needs
 
--- src/judge.rt:312:9
 returns : tie.Need-returns
-returns c = ?
+returns c = let a = c .before .before .before .before .before .before .before .args in plan-full _ _ (a .x .list .0) _ (c .before .before .has .ensures) (shape-holders (a .h) _ _ (c .before .before .before .before .inner-shape .ensures) _ (c .before .before .before .all-holders .ensures)) (c .if1 .taken)
 
--- src/judge.rt:318:16
 with-requires : tie.Need-with-requires
 with-requires c κs = search needs
 
--- src/judge.rt:318:37
 with-requires-2 : tie.Need-with-requires-2
 with-requires-2 c κs = search needs
 
--- src/judge.rt:304:1
 returns-2 : tie.Need-returns-2
-returns-2 c = ?
+returns-2 c = let a = c .before .before .before .before .before .before .before .before .before .before .before .args in plan-delta _ _ (a .x .list .0) _ (c .before .before .before .before .before .before .has .ensures) (shape-holders (a .h) _ _ (c .before .before .before .before .before .before .before .before .inner-shape .ensures) _ (c .before .before .before .before .before .before .before .all-holders .ensures)) (c .before .before .before .before .if1 .left) (c .before .before .before .with .ensures) (c .before .before .with2 .ensures)
 
 pub grant-plan-spec : {M : Type 1} → statement M
 grant-plan-spec =

@@ -12,10 +12,10 @@ enum-known-found : tie.Need-enum-known-found
 enum-known-found c = search needs
 
 cast-all-holders : tie.Need-cast-all-holders
-cast-all-holders c = omega (arith, holders-there _ (c .before .before .before .before .before .before .args .it .now) _ _ (c .before .before .before .find-set .ensures) (c .before .found .given .1), c .before .before .before .before .before .before .pre .1)
+cast-all-holders c = let s = c .before .before .before .before .before .before in omega (arith, holders-there (s .args .i) (s .args .it .now) _ _ (c .before .before .before .find-set .ensures) (c .before .found .given .1), s .pre .1)
 
 all-holders-requires : tie.Need-all-holders-requires
-all-holders-requires c κs = (c .before .before .before .before .before .before .pre .0, holders-there _ (c .before .before .before .before .before .before .args .it .now) _ _ (c .before .before .before .find-set .ensures) (c .before .found .given .1))
+all-holders-requires c κs = let s = c .before .before .before .before .before .before in (s .pre .0, holders-there (s .args .i) (s .args .it .now) _ _ (c .before .before .before .find-set .ensures) (c .before .found .given .1))
 
 enum-told : tie.Need-enum-told
 enum-told c = search needs

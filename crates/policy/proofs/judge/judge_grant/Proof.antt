@@ -1,68 +1,61 @@
+-- `policy::judge::judge_grant` meets its contract. Assumes nothing.
+use native.Mathlib.Omega.{arith}
+use Prim.Native.Nat.{_<_}
+use Rattle.rules.specs.Bytes.{tables}
+use Rattle.layer.specs.Laid.{resourceIs}
+use Rattle.policy.proofs.PartLaws.{there, users-within}
+use Rattle.policy.proofs.ReadyLaws.{Sizes, sizes, inner-laid, row-inner}
+use Rattle.policy.proofs.JudgeLaws.{grant-no-such, grant-listed, grant-judged}
 use borrow.Author.Needs.{needs}
 use Rattle.policy.proofs.judge.judge_grant.Statement.{statement}
 use Rattle.policy.proofs.judge.judge_grant.Tie as tie
-use Rattle.policy.proofs.judge.judge_grant.Reads as reads
-use Rattle.policy.proofs.judge.judge_grant.Lts as lts
-use Rattle.layer.proofs.table.resource_in.Reads as resource-in-reads
-use Rattle.policy.proofs.judge.grant_after.Reads as grant-after-reads
-use Rattle.policy.proofs.judge.grant_part.Reads as grant-part-reads
-use Rattle.policy.proofs.judge.grant_plan.Reads as grant-plan-reads
-use Rattle.policy.proofs.judge.limits.Reads as limits-reads
-use Rattle.policy.proofs.judge.no_such.Reads as no-such-reads
-use Rattle.sets.proofs.Users.has.Reads as has-reads
-use Rattle.sets.proofs.Users.with.Reads as with-reads
 
--- src/judge.rt:372:8
+-- the sizes of a ready book's tables
+abbrev sized : (s : tie.Start) → Sizes (s .args .h) (tables (s .args .iv .now) (s .args .it .now) (s .args .ov .now) (s .args .ot .now) (s .args .rs .now))
+sized s = sizes _ _ _ _ _ _ (s .pre)
+
+-- the user and the resource exist
+exist : (c : tie.Else1) → let a = c .before .before .before .before .before .before .before .args in (a .u .0 < a .h .users .0) × (a .r .0 < a .h .resources .0)
+exist c = let a = c .before .before .before .before .before .before .before .args in there (a .u .0) (a .h .users .0) (a .r .0) (a .h .resources .0) (c .before .no-such .ensures) (c .if1 .left)
+
 no-such-requires : tie.Need-no-such-requires
 no-such-requires c κs = search needs
 
--- src/judge.rt:373:9
 returns : tie.Need-returns
-returns c = ?
+returns c = grant-no-such _ _ _ _ _ _ (c .before .before .before .before .before .before .before .pre) _ _ _ (c .before .no-such .ensures) (c .if1 .taken)
 
--- src/judge.rt:375:29
 cast-resource-in : tie.Need-cast-resource-in
 cast-resource-in c = search needs
 
--- src/judge.rt:375:53
 cast-resource-in-2 : tie.Need-cast-resource-in-2
 cast-resource-in-2 c = search needs
 
--- src/judge.rt:375:9
 resource-in-requires : tie.Need-resource-in-requires
-resource-in-requires c κs = ?
+resource-in-requires c κs = omega (arith, exist (c .before .before) .1, sized (c .before .before .before .before .before .before .before .before .before) .room .resources)
 
--- src/judge.rt:376:8
 has-requires : tie.Need-has-requires
-has-requires c κs = ?
+has-requires c κs = omega (arith, exist (c .before .before .before) .0, sized (c .before .before .before .before .before .before .before .before .before .before) .users≤)
 
--- src/judge.rt:377:9
 returns-2 : tie.Need-returns-2
-returns-2 c = ?
+returns-2 c = grant-listed _ _ _ _ _ _ (c .before .before .before .before .before .before .before .before .before .before .before .before .pre) _ _ _ (c .before .before .before .before .before .before .no-such .ensures) (c .before .before .before .before .before .if1 .left) {x = resourceIs (c .before .before .resource-in .result)} (c .before .before .resource-in .ensures) (c .before .has .ensures) (c .if2 .taken)
 
--- src/judge.rt:379:9
 grant-plan-requires : tie.Need-grant-plan-requires
-grant-plan-requires c κs = ?
+grant-plan-requires c κs = let s = c .before .before .before .before .before .before .before .before .before .before .before .before in (inner-laid _ _ _ _ _ _ (s .pre), (row-inner _ _ _ _ _ _ (s .pre) {x = resourceIs (c .before .before .resource-in .result)} _ (exist (c .before .before .before .before .before) .1) (c .before .before .resource-in .ensures), omega (arith, exist (c .before .before .before .before .before) .0, sized s .users≤)))
 
--- src/judge.rt:380:41
 with-requires : tie.Need-with-requires
-with-requires c κs = ?
+with-requires c κs = omega (arith, exist (c .before .before .before .before .before .before) .0, sized (c .before .before .before .before .before .before .before .before .before .before .before .before .before) .users≤)
 
--- src/judge.rt:380:9
 grant-part-requires : tie.Need-grant-part-requires
-grant-part-requires c κs = ?
+grant-part-requires c κs = let s = c .before .before .before .before .before .before .before .before .before .before .before .before .before .before in (sized s .room .outerVertices, sized s .room .resources)
 
--- src/judge.rt:381:12
 grant-after-requires : tie.Need-grant-after-requires
 grant-after-requires c κs = search needs
 
--- src/judge.rt:381:5
 limits-requires : tie.Need-limits-requires
-limits-requires c κs = ?
+limits-requires c κs = let s = c .before .before .before .before .before .before .before .before .before .before .before .before .before .before .before .before in users-within (s .args .h) _ _ _ (c .grant-after .ensures) (sized s .users≤)
 
--- src/judge.rt:358:1
 returns-3 : tie.Need-returns-3
-returns-3 c = ?
+returns-3 c = grant-judged _ _ _ _ _ _ (c .before .before .before .before .before .before .before .before .before .before .before .before .before .before .before .before .before .pre) _ _ _ (c .before .before .before .before .before .before .before .before .before .before .before .no-such .ensures) (c .before .before .before .before .before .before .before .before .before .before .if1 .left) {x = resourceIs (c .before .before .before .before .before .before .before .resource-in .result)} (c .before .before .before .before .before .before .before .resource-in .ensures) (c .before .before .before .before .before .before .has .ensures) (c .before .before .before .before .before .if2 .left) (c .before .before .before .before .grant-plan .ensures) (c .before .before .before .with .ensures) (c .before .before .grant-part .ensures .0) (c .before .grant-after .ensures) (c .limits .ensures)
 
 pub judge-grant-spec : {M : Type 1} → statement M
 judge-grant-spec =

@@ -1,66 +1,57 @@
+-- `policy::judge::judge_insert` meets its contract. Assumes nothing.
+use Rattle.policy.proofs.PartLaws.{users-within}
+use native.Mathlib.Omega.{arith}
+use mathlib.Core.Path.{sym, _∙_}
+use borrow.Author.Tests.{not-true, not-false, ltb-true}
+use Rattle.rules.specs.Bytes.{tables}
+use Rattle.policy.proofs.ReadyLaws.{Sizes, sizes, inner-laid}
+use Rattle.policy.proofs.JudgeLaws.{insert-no-such, insert-empty, insert-full, insert-judged}
 use borrow.Author.Needs.{needs}
 use Rattle.policy.proofs.judge.judge_insert.Statement.{statement}
 use Rattle.policy.proofs.judge.judge_insert.Tie as tie
-use Rattle.policy.proofs.judge.judge_insert.Reads as reads
-use Rattle.policy.proofs.judge.judge_insert.Lts as lts
-use Rattle.layer.proofs.make.new_rows.Reads as new-rows-reads
-use Rattle.policy.proofs.judge.insert_free.Reads as insert-free-reads
-use Rattle.policy.proofs.judge.limits.Reads as limits-reads
-use Rattle.policy.proofs.judge.rows_after.Reads as rows-after-reads
-use Rattle.policy.proofs.judge.settled.Reads as settled-reads
-use Rattle.sets.proofs.Users.below.Reads as below-reads
 
--- src/judge.rt:242:9
+-- the sizes of a ready book's tables
+abbrev sized : (s : tie.Start) → Sizes (s .args .h) (tables (s .args .iv .now) (s .args .it .now) (s .args .ov .now) (s .args .ot .now) (s .args .rs .now))
+sized s = sizes _ _ _ _ _ _ (s .pre)
+
 below-requires : tie.Need-below-requires
-below-requires c κs = ?
+below-requires c κs = omega (arith, sized (c .before .before .before .before .before) .users≤)
 
--- src/judge.rt:243:9
 returns : tie.Need-returns
-returns c = ?
+returns c = insert-no-such _ _ _ _ _ _ (c .before .before .before .before .before .before .before .pre) _ _ (sym (c .before .below .ensures) ∙ not-true _ (c .if1 .taken))
 
--- src/judge.rt:246:9
 returns-2 : tie.Need-returns-2
-returns-2 c = ?
+returns-2 c = insert-empty _ _ _ _ _ _ (c .before .before .before .before .before .before .before .before .before .pre) _ _ (sym (c .before .before .before .below .ensures) ∙ not-false _ (c .before .before .if1 .left)) (c .if2 .taken)
 
--- src/judge.rt:249:9
 returns-3 : tie.Need-returns-3
-returns-3 c = ?
+returns-3 c = insert-full _ _ _ _ _ _ (c .before .before .before .before .before .before .before .before .before .before .before .pre) _ _ (sym (c .before .before .before .before .before .below .ensures) ∙ not-false _ (c .before .before .before .before .if1 .left)) (c .before .before .if2 .left) (c .if3 .taken)
 
--- src/judge.rt:251:9
 insert-free-requires : tie.Need-insert-free-requires
-insert-free-requires c κs = ?
+insert-free-requires c κs = inner-laid _ _ _ _ _ _ (c .before .before .before .before .before .before .before .before .before .before .before .pre)
 
--- src/judge.rt:252:26
 cast-new-rows : tie.Need-cast-new-rows
 cast-new-rows c = search needs
 
--- src/judge.rt:252:9
 new-rows-requires : tie.Need-new-rows-requires
-new-rows-requires c κs = ?
+new-rows-requires c κs = omega (arith, sized (c .before .before .before .before .before .before .before .before .before .before .before .before .before) .room .innerVertices, sized (c .before .before .before .before .before .before .before .before .before .before .before .before .before) .inner≤)
 
--- src/judge.rt:253:9
 settled-requires : tie.Need-settled-requires
-settled-requires c κs = ?
+settled-requires c κs = sized (c .before .before .before .before .before .before .before .before .before .before .before .before .before .before) .room .outerVertices
 
--- src/judge.rt:254:37
 add-rows-after : tie.Need-add-rows-after
 add-rows-after c = search needs
 
--- src/judge.rt:254:37
 add-rows-after-2 : tie.Need-add-rows-after-2
 add-rows-after-2 c = search needs
 
--- src/judge.rt:254:9
 rows-after-requires : tie.Need-rows-after-requires
 rows-after-requires c κs = search needs
 
--- src/judge.rt:255:5
 limits-requires : tie.Need-limits-requires
-limits-requires c κs = ?
+limits-requires c κs = let s = c .before .before .before .before .before .before .before .before .before .before .before .before .before .before .before .before .before in users-within (s .args .h) _ _ _ (c .rows-after .ensures) (sized s .users≤)
 
--- src/judge.rt:229:1
 returns-4 : tie.Need-returns-4
-returns-4 c = ?
+returns-4 c = insert-judged _ _ _ _ _ _ (c .before .before .before .before .before .before .before .before .before .before .before .before .before .before .before .before .before .before .pre) _ _ (ltb-true _ _ (sym (c .before .before .before .before .before .before .before .before .before .before .before .before .below .ensures) ∙ not-false _ (c .before .before .before .before .before .before .before .before .before .before .before .if1 .left))) (c .before .before .before .before .before .before .before .before .before .if2 .left) (c .before .before .before .before .before .before .before .if3 .left) (c .before .before .before .before .before .before .insert-free .ensures) (c .before .before .before .before .new-rows .ensures .0) (c .before .before .before .before .new-rows .ensures .1 .0) (c .before .before .before .settled .ensures .0) (c .before .rows-after .ensures) (c .limits .ensures)
 
 pub judge-insert-spec : {M : Type 1} → statement M
 judge-insert-spec =
