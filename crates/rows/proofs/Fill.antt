@@ -1,5 +1,5 @@
 -- Rows of one width that are stored one after the other: a loop that fills a table. Assumes nothing.
-use mathlib.Core.Path.{_≡_, sym, ap, _∙_}
+use mathlib.Core.Path.{_≡_, refl, sym, ap, ap₂, _∙_}
 use mathlib.Core.List.{List, [], _∷_, _++_, append-assoc, append-nil, map}
 use Prim.Native.Nat.{ℕ, _+_, _*_, _≤_, _<_}
 use native.Mathlib.Nat.{suc-mul, add-mul, mul-le-mul-left, mul-le-mul-right}
@@ -36,27 +36,32 @@ module _ {A : Type 0} (w : ℕ) (f : A → List ℕ) (wide : (x : A) → length 
   one-more [] x = append-nil (f x)
   one-more (y ∷ xs) x = rw (one-more xs x) (sym (append-assoc (f y) (joined (map f xs)) (f x)))
 
+  -- rows from `row` on, for which t has room, keep its length, and with one row more they are one store
+  pub fill-long : (row : ℕ) (xs : List A) (t : List ℕ) → (row + length xs) * w ≤ length t → length (stored (row * w) (joined (map f xs)) t) ≡ length t
+  fill-long row xs t room = length-stored (row * w) (joined (map f xs)) t (rw (long xs) (omega (arith, add-mul row (length xs) w)))
+
+  pub fill-one : (row : ℕ) (xs : List A) (x : A) (t : List ℕ) → (row + length xs) * w + w ≤ length t
+      → stored ((row + length xs) * w) (f x) (stored (row * w) (joined (map f xs)) t) ≡ stored (row * w) (joined (map f (xs ++ (x ∷ [])))) t
+  fill-one row xs x t room =
+      stored-add (row * w) (joined (map f xs)) (f x) t ((row + length xs) * w) (rw (long xs) (add-mul row (length xs) w)) (rw (wide x) room)
+      ∙ ap (λ (bs : List ℕ). stored (row * w) bs t) (sym (one-more xs x))
+
   -- a loop over the first m elements stores their rows, where t has room for them
   module _ (row m : ℕ) (xs : List A) (t : List ℕ) (room : (row + m) * w ≤ length t) (there : m ≤ length xs) where
     pub fill-length : (i : ℕ) {a : List ℕ} → i ≤ m → Filled w f row xs t i a → length a ≡ length t
     fill-length i h e =
         let n : length (take i xs) ≡ i = length-take-le i xs (omega arith) in
         let low : row + i ≤ row + m = omega arith in
-        ap length e
-        ∙ length-stored (row * w) (joined (map f (take i xs))) t
-        (rw (long (take i xs), n) (omega (arith, add-mul row i w, mul-le-mul-right w low)))
+        ap length e ∙ fill-long row (take i xs) t (rw n (omega (arith, mul-le-mul-right w low)))
 
     -- and the next one
     pub fill-next : (d : A) (i : ℕ) {a b : List ℕ} → i < m → Filled w f row xs t i a → b ≡ stored ((row + i) * w) (f (getD xs i d)) a
         → Filled w f row xs t (i + 1) b
     fill-next d i h e k =
         let n : length (take i xs) ≡ i = length-take-le i xs (omega arith) in
-        let at : (row + i) * w ≡ row * w + length (joined (map f (take i xs))) = rw (long (take i xs), n) (add-mul row i w) in
         let low : row + i < row + m = omega arith in
         let more : i < length xs = omega arith in
         k
-        ∙ ap (stored ((row + i) * w) (f (getD xs i d))) e
-        ∙ stored-add (row * w) (joined (map f (take i xs))) (f (getD xs i d)) t ((row + i) * w) at
-        (rw (wide (getD xs i d)) (omega (arith, row-within (row + i) (row + m) w low)))
-        ∙ ap (λ (bs : List ℕ). stored (row * w) bs t)
-        (rw (add-one, take-suc xs i d more) (sym (one-more (take i xs) (getD xs i d))))
+        ∙ ap₂ (λ (j : ℕ). stored ((row + j) * w) (f (getD xs i d))) (sym n) e
+        ∙ fill-one row (take i xs) (getD xs i d) t (rw n (omega (arith, row-within (row + i) (row + m) w low)))
+        ∙ rw (add-one, take-suc xs i d more)

@@ -34,11 +34,12 @@ tabulateFrom-snoc {A} i (suc n) f =
     (tabulateFrom-snoc (suc i) n f ∙ ap (λ (k : ℕ). tabulateFrom (suc i) n f ++ (f k ∷ [])) (suc-add i n ∙ sym (add-suc i n)))
 
 -- one number more
-pub upTo-more : {A : Type 0} (xs : List A) (x : A) → upTo (length (xs ++ (x ∷ []))) ≡ upTo (length xs) ++ (length xs ∷ [])
+pub upTo-next : (n : ℕ) → upTo (n + 1) ≡ upTo n ++ (n ∷ [])
 unfolding upTo tabulate
-upTo-more xs x =
-    ap upTo (length-append xs (x ∷ []) ∙ add-one (length xs))
-    ∙ tabulateFrom-snoc 0 (length xs) (λ i. i) ∙ ap (λ (k : ℕ). upTo (length xs) ++ (k ∷ [])) (zero-add (length xs))
+upTo-next n = ap upTo (add-one n) ∙ tabulateFrom-snoc 0 n (λ i. i) ∙ ap (λ (k : ℕ). upTo n ++ (k ∷ [])) (zero-add n)
+
+pub upTo-more : {A : Type 0} (xs : List A) (x : A) → upTo (length (xs ++ (x ∷ []))) ≡ upTo (length xs) ++ (length xs ∷ [])
+upTo-more xs x = ap upTo (length-append xs (x ∷ [])) ∙ upTo-next (length xs)
 
 map-set : {A B : Type 0} (f : A → B) (xs : List A) (i : ℕ) (x : A) → map f (set xs i x) ≡ set (map f xs) i (f x)
 map-set f [] i x = refl

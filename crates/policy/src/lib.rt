@@ -1,0 +1,4 @@
+// The requests: check, plan, apply. Nothing is written before every refusal is excluded.
+pub mod judge;
+pub mod plan;
+pub mod write;
