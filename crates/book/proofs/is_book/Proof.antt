@@ -29,7 +29,7 @@ record Held (e : tie.After-start-of5) : Type 0 where
 
 held : (c : tie.After-start-of5) → Held c
 held c = record {
-  exact = tested c .if6 .left ∙ tested c .before .start-of .ensures;
+  exact = omega (arith, tested c .if6, tested c .before .start-of .ensures);
   starts = cuts (tested c .before .before .head-in .result) _ _ _ _ (c .before .before .before .start-of2 .ensures) (c .before .before .start-of3 .ensures) (c .before .start-of4 .ensures) (c .start-of5 .ensures);
 }
 

@@ -57,7 +57,7 @@ part-result-end-2 : tie.Need-part-result-end-2
 part-result-end-2 c = search needs
 
 returns-2 : tie.Need-returns-2
-returns-2 c = section-none _ _ (is (c .before .before)) (c .before .if2 .taken)
+returns-2 c = section-none _ _ (is (c .before .before)) (omega arith)
 
 head-in-requires : tie.Need-head-in-requires
 head-in-requires c κs = book-bytes _ (is (c .before)) .long
