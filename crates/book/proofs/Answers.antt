@@ -1,19 +1,19 @@
 -- What the calls on a book's bytes answer: whether they are a book, its sections, reading and writing. Each law is one way out of a call.
 -- Assumes nothing.
-use Prim.Native.Nat.{ℕ, _+_, _*_, _-_, _≤_, _<_}
+use Prim.Native.Nat.{ℕ, suc, _+_, _*_, _-_, _≤_, _<_}
 use mathlib.Core.Path.{_≡_, refl, sym, ap, ap₂, subst, _∙_}
-use mathlib.Core.Bool.{Bool, true, false}
+use mathlib.Core.Bool.{Bool, true, false, not}
 use mathlib.Core.List.{List, [], _∷_, _++_}
-use mathlib.Core.Option.{some, Option·some-ne-none}
+use mathlib.Core.Option.{Option, some, none, Option·some-ne-none}
 use native.Mathlib.Numerals.{add-one}
 use native.Mathlib.Omega.{arith}
 use lib.Dec.{ltb}
 use lib.ListN.{length, getD, take, drop, length-take, length-drop}
-use borrow.Author.Tests.{lt-ltb, le-ltb, eq-eqb, le-leb}
+use borrow.Author.Tests.{not-true, lt-ltb, le-ltb, eq-eqb, le-leb}
 use Rattle.rows.specs.Number.{cell, stored}
 use Rattle.rows.proofs.Laws.{cell-add, cell-one}
 use Rattle.rules.specs.Sound.{sound}
-use Rattle.rules.specs.Bytes.{Tables, headIn, start, read, isBook, bookIn, laid, write, Room}
+use Rattle.rules.specs.Bytes.{Tables, headIn, start, read, isBook, bookIn, laid, write, Room, Bytes}
 use Rattle.rules.specs.Refusals.{short, common, verdict, refusalRead, refusalSection, refusalWrite}
 use Rattle.rules.specs.Calls.{part, partBy, sectionCall, loading, loadBy, readCall, writing, writeBy, writeCall}
 use Rattle.rules.specs.declared.Head.{Head}
@@ -21,11 +21,18 @@ use Rattle.rules.specs.declared.Refusal.{Refusal}
 use Rattle.rules.specs.declared.Refusal.the-variants.{ShortTable, Unsound, ShortList}
 use Rattle.rules.specs.declared.Loaded.the-variants as load
 use Rattle.rules.specs.declared.Stored.the-variants as store
-use Rattle.theorems.proofs.RequestLaws.{Rows, common-passed}
+use Rattle.sound.specs.Check.{checkedBy, checked}
+use Rattle.sound.specs.declared.Checked.{Checked}
+use Rattle.sound.specs.declared.Checked.the-variants.{Sound, No}
+use Rattle.theorems.proofs.RequestLaws.{Rows, common-none, common-passed}
 use Rattle.theorems.proofs.ByteLaws.{BookFits, sound-fits, sound-room, head-in}
-use Rattle.theorems.proofs.WriteLaws.{BookBytes, book-bytes, head-read, length-write}
+use Rattle.theorems.proofs.WriteLaws.{BookBytes, book-bytes, head-read, length-write, start-next, start-le}
 use Rattle.book.specs.Ready.{Loadable, Savable}
 use Rattle.book.proofs.Laws.{Cuts, parts, section-cut, sections-cut}
+
+-- the answer x is no (the code tests `!x`)
+pub no : {s x : Bool} → x ≡ s → not x ≡ true → s ≡ false
+no {x = x} a e = sym a ∙ not-true x e
 
 -- ---- is_book
 
@@ -40,6 +47,15 @@ mark-bytes bs l =
       cell-one 1 bs (omega arith),
       cell-one 2 bs (omega arith),
     )
+
+-- the mark, byte by byte
+pub mark-is : (bs : List ℕ) → 3 ≤ length bs → getD bs 0 0 ≡ 0x54 → getD bs 1 0 ≡ 0x4B → getD bs 2 0 ≡ 0x42 → cell 3 0 bs ≡ 0x424B54
+mark-is bs l a b c = omega (arith, mark-bytes bs l)
+
+pub marked : (bs : List ℕ) → Bytes bs → BookBytes bs → (getD bs 0 0 ≡ 0x54) × (getD bs 1 0 ≡ 0x4B) × (getD bs 2 0 ≡ 0x42)
+marked bs byte k =
+    let m : getD bs 0 0 + 256 * getD bs 1 0 + 65536 * getD bs 2 0 ≡ 0x424B54 = sym (mark-bytes bs (omega arith)) ∙ k .mark in
+    (omega (arith, byte 0, byte 1, byte 2), omega (arith, byte 0, byte 1, byte 2), omega (arith, byte 0, byte 1, byte 2))
 
 -- a test that fails
 pub not-book : (bs : List ℕ) → (BookBytes bs → ⊥) → isBook bs ≡ false
@@ -66,6 +82,12 @@ unfolding read
 read-parts bs h a b c d e exact cut =
     ap₂ bookIn e (sections-cut bs a b c d (exact ∙ ap (λ (k : Head). start k 5) e) (subst (λ (k : Head). Cuts k a b c d) e cut))
 
+-- what the rules say x of the book in these stretches, they say of the bytes
+pub book-by-rules : (bs : List ℕ) (h : Head) (a b c d : ℕ) {x : Bool} → 17 ≤ length bs → cell 3 0 bs ≡ 0x424B54 → cell 2 3 bs ≡ 1
+    → h ≡ headIn bs → length bs ≡ start h 5 → Cuts h a b c d → x ≡ sound (bookIn h (parts bs a b c d)) → x ≡ isBook bs
+book-by-rules bs h a b c d long mark version e exact cut s =
+    s ∙ ap sound (read-parts bs h a b c d e exact cut) ∙ sym (book-sound bs long mark version (exact ∙ ap (λ (k : Head). start k 5) e))
+
 -- they hold the rows that the head counts
 pub parts-room : (bs : List ℕ) (h : Head) (a b c d : ℕ) → length bs ≡ start h 5 → Cuts h a b c d → Room h (parts bs a b c d)
 parts-room bs h a b c d exact cut = record {
@@ -77,6 +99,12 @@ parts-room bs h a b c d exact cut = record {
 }
 
 -- ---- section
+
+pub section-within : (bs : List ℕ) (k a b : ℕ) → isBook bs ≡ true → a ≡ start (headIn bs) k → b ≡ start (headIn bs) (k + 1) → (a ≤ b) × (b ≤ length bs)
+section-within bs k a b e ea eb =
+    let exact : length bs ≡ start (headIn bs) 5 = book-bytes bs e .exact in
+    let next : b ≡ start (headIn bs) (suc k) = eb ∙ ap (start (headIn bs)) (add-one k) in
+    (omega (arith, start-next (headIn bs) k), omega (arith, start-le (headIn bs) (suc k)))
 
 pub section-unsound : (bs : List ℕ) (k : ℕ) → isBook bs ≡ false → part [] 12 ≡ sectionCall bs k
 unfolding sectionCall partBy refusalSection verdict
@@ -115,6 +143,26 @@ unfolding readCall loadBy refusalRead verdict
 read-given bs h t u s e eh eu = rw (s, e) (ap₂ (λ (x : Head) (y : Tables). loading (load.Is x) y) eh eu)
 
 -- ---- write
+
+by-none : (o : Option Refusal) → Sound ≡ checkedBy o → o ≡ none
+unfolding checkedBy
+by-none none e = refl
+by-none (some r) e = let z : _≡_ {A = ℕ} 0 1 = cc in absurd (omega arith)
+
+by-some : (o : Option Refusal) (r : Refusal) → No r ≡ checkedBy o → o ≡ some r
+unfolding checkedBy
+by-some none r e = let z : _≡_ {A = ℕ} 0 1 = cc in absurd (omega arith)
+by-some (some q) r e = cc
+
+-- the check passed
+pub checked-sound : (h : Head) (t : Tables) {k : Checked} → k ≡ Sound → k ≡ checked h t → (short t ≡ false) × (sound (bookIn h t) ≡ true)
+unfolding checked common
+checked-sound h t p q = let (s, k, n) = common-none t (bookIn h t) [] (by-none (verdict (common t (bookIn h t))) (sym p ∙ q)) in (s, k)
+
+-- the check answers 13 or 12
+pub checked-no : (h : Head) (t : Tables) (r : Refusal) {k : Checked} → k ≡ No r → k ≡ checked h t → verdict (common t (bookIn h t)) ≡ some r
+unfolding checked
+checked-no h t r p q = by-some (verdict (common t (bookIn h t))) r (sym p ∙ q)
 
 pub savable : (h : Head) (t : Tables) (buffer : List ℕ) → short t ≡ false → sound (bookIn h t) ≡ true → start h 5 ≤ length buffer → Savable h t buffer
 unfolding bookIn

@@ -3,17 +3,25 @@ use rules::Head;
 use rules::InnerTokens;
 use rules::InnerVertices;
 use rules::Joined;
+use rules::Loaded;
 use rules::Mode;
 use rules::OuterTokens;
 use rules::OuterVertices;
+use rules::Refusal;
 use rules::Resources;
+use rules::Stored;
 use rules::WIDTHS;
+use sound::Checked;
+use sound::check;
+use sound::every::all_rules;
+use sound::long_enough;
 ghost use mathlib.Core.Path.{_≡_};
 ghost use Prim.Native.Nat.{_+_, _*_, _≤_, _<_};
 ghost use lib.ListN.{length, take, getD};
 ghost use Rattle.rows.specs.Number.{stored};
 ghost use Rattle.book.specs.Ready.{Loadable, Savable};
-ghost use Rattle.rules.specs.Bytes.{tables, headIn, header, counts, start, laid, read, bookIn, write, Room};
+ghost use Rattle.rules.specs.Calls.{sectionCall, readCall, writeCall, part, loading, writing};
+ghost use Rattle.rules.specs.Bytes.{isBook, tables, headIn, header, counts, start, laid, read, bookIn, write, Room};
 
 // The head that a book's first 17 bytes give.
 pub fn head_in(bytes: &[u8]) -> Head
@@ -143,4 +151,99 @@ fn save(h: Head, iv: &[u8], it: &[u8], ov: &[u8], ot: &[u8], rs: &[u8], buffer: 
     put(ov, c - b, buffer, b);
     put(ot, d - c, buffer, c);
     put(rs, start_of(h, 5) - d, buffer, d);
+}
+
+// Whether the bytes are a sound book's.
+pub fn is_book(bytes: &[u8]) -> bool
+    ensures { λ r. ⌜ r ≡ isBook (now (bytes .entry)) ⌝ }
+{
+    if bytes.len() < 17 {
+        return false;
+    }
+    if bytes[0] != 0x54 || bytes[1] != 0x4B || bytes[2] != 0x42 || rows::get2(bytes, 3) != 1 {
+        return false;
+    }
+    let h = head_in(bytes);
+    if bytes.len() != start_of(h, 5) {
+        return false;
+    }
+    let a = start_of(h, 1);
+    let b = start_of(h, 2);
+    let c = start_of(h, 3);
+    let d = start_of(h, 4);
+    all_rules(
+        h,
+        &bytes[17..a],
+        &bytes[a..b],
+        &bytes[b..c],
+        &bytes[c..d],
+        &bytes[d..],
+    )
+}
+
+// A section of a book, "the stretch of the lent book itself"; the refusal's number, or 0, goes to the cell.
+pub fn section<'a>(bytes: &'a [u8], k: usize, cell: &mut u16) -> &'a [u8]
+    ensures { λ r. ⌜ part (now r) (now (cell .exit)) ≡ sectionCall (now (bytes .entry)) k ⌝ }
+{
+    if !is_book(bytes) {
+        *cell = 12;
+        return &bytes[0..0];
+    }
+    if k >= 5 {
+        *cell = 1;
+        return &bytes[0..0];
+    }
+    *cell = 0;
+    let h = head_in(bytes);
+    let from = start_of(h, k);
+    let to = start_of(h, k + 1);
+    &bytes[from..to]
+}
+
+// A book's bytes into the tables. The tables' old content is not judged.
+pub fn read(
+    bytes: &[u8],
+    iv: &mut [u8],
+    it: &mut [u8],
+    ov: &mut [u8],
+    ot: &mut [u8],
+    rs: &mut [u8],
+) -> Loaded
+    ensures { λ r. ⌜ loading r (tables (now (iv .exit)) (now (it .exit)) (now (ov .exit)) (now (ot .exit)) (now (rs .exit))) ≡ readCall (now (bytes .entry)) (tables (now (iv .entry)) (now (it .entry)) (now (ov .entry)) (now (ot .entry)) (now (rs .entry))) ⌝ }
+{
+    if !long_enough(iv, it, ov, ot, rs) {
+        return Loaded::No(Refusal::ShortTable);
+    }
+    if !is_book(bytes) {
+        return Loaded::No(Refusal::Unsound);
+    }
+    let h = head_in(bytes);
+    load(bytes, h, iv, it, ov, ot, rs);
+    Loaded::Is(h)
+}
+
+// The tables' book as bytes into the buffer: its length.
+pub fn write(
+    h: Head,
+    iv: &[u8],
+    it: &[u8],
+    ov: &[u8],
+    ot: &[u8],
+    rs: &[u8],
+    buffer: &mut [u8],
+) -> Stored
+    ensures { λ r. ⌜ writing r (now (buffer .exit)) ≡ writeCall h (tables (now (iv .entry)) (now (it .entry)) (now (ov .entry)) (now (ot .entry)) (now (rs .entry))) (now (buffer .entry)) ⌝ }
+{
+    let k = check(h, iv, it, ov, ot, rs);
+    match k {
+        Checked::No(r) => Stored::No(r),
+        Checked::Sound => {
+            let end = start_of(h, 5);
+            if buffer.len() < end {
+                return Stored::No(Refusal::ShortList);
+            }
+            save(h, iv, it, ov, ot, rs, buffer);
+            Stored::Bytes(end)
+        }
+    }
 }

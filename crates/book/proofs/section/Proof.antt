@@ -1,0 +1,108 @@
+-- `book::section` meets its contract: the section of a book lies between its start and the next one's. Assumes nothing.
+use Prim.Native.Nat.{_+_, _≤_}
+use mathlib.Core.Path.{_≡_, ap, _∙_}
+use mathlib.Core.Bool.{true}
+use native.Mathlib.Omega.{arith}
+use lib.ListN.{length}
+use borrow.Author.Needs.{needs}
+use Rattle.rules.specs.Bytes.{headIn, start, isBook}
+use Rattle.rules.specs.declared.Head.{Head}
+use Rattle.sound.proofs.Answers.{yes}
+use Rattle.theorems.proofs.WriteLaws.{book-bytes}
+use Rattle.book.proofs.Answers.{no, section-within, section-unsound, section-none, section-given}
+use Rattle.book.proofs.section.Statement.{statement}
+use Rattle.book.proofs.section.Tie as tie
+
+-- ---- the bytes are a book, and the two starts are its own
+
+is : (c : tie.Else1) → isBook (c .before .before .before .args .bytes .now) ≡ true
+is c = yes (c .before .is-book .ensures) (c .if1 .left)
+
+abbrev entry : tie.After-start-of2 → tie.Start
+entry c = c .before .before .before .before .before .before .before
+
+from : (c : tie.After-start-of2) → c .before .start-of .result ≡ start (headIn (entry c .args .bytes .now)) (entry c .args .k)
+from c = c .before .start-of .ensures ∙ ap (λ (h : Head). start h (entry c .args .k)) (c .before .before .head-in .ensures)
+
+to : (c : tie.After-start-of2) → c .start-of2 .result ≡ start (headIn (entry c .args .bytes .now)) (entry c .args .k + 1)
+to c = c .start-of2 .ensures ∙ ap (λ (h : Head). start h (entry c .args .k + 1)) (c .before .before .head-in .ensures)
+
+within : (c : tie.After-start-of2) → (c .before .start-of .result ≤ c .start-of2 .result) × (c .start-of2 .result ≤ length (entry c .args .bytes .now))
+within c = section-within _ _ _ _ (is (c .before .before .before .before)) (from c) (to c)
+
+-- ---- the needs
+
+is-book-requires : tie.Need-is-book-requires
+is-book-requires c κs = search needs
+
+sub-result : tie.Need-sub-result
+sub-result c = search needs
+
+part-result-start : tie.Need-part-result-start
+part-result-start c = search needs
+
+part-result-end : tie.Need-part-result-end
+part-result-end c = search needs
+
+returns : tie.Need-returns
+returns c = section-unsound _ _ (no (c .before .before .is-book .ensures) (c .before .if1 .taken))
+
+sub-result-2 : tie.Need-sub-result-2
+sub-result-2 c = search needs
+
+part-result-start-2 : tie.Need-part-result-start-2
+part-result-start-2 c = search needs
+
+part-result-end-2 : tie.Need-part-result-end-2
+part-result-end-2 c = search needs
+
+returns-2 : tie.Need-returns-2
+returns-2 c = section-none _ _ (is (c .before .before)) (omega arith)
+
+head-in-requires : tie.Need-head-in-requires
+head-in-requires c κs = book-bytes _ (is (c .before)) .long
+
+start-of-requires : tie.Need-start-of-requires
+start-of-requires c κs = search needs
+
+add-start-of : tie.Need-add-start-of
+add-start-of c = search needs
+
+start-of-requires-2 : tie.Need-start-of-requires-2
+start-of-requires-2 c κs = search needs
+
+sub-result-3 : tie.Need-sub-result-3
+sub-result-3 c = within c .0
+
+part-result-start-3 : tie.Need-part-result-start-3
+part-result-start-3 c = omega (arith, within c)
+
+part-result-end-3 : tie.Need-part-result-end-3
+part-result-end-3 c = omega (arith, within c)
+
+returns-3 : tie.Need-returns-3
+returns-3 c =
+    let e = c .before in
+    section-given _ _ _ _ (is (e .before .before .before .before)) (e .before .before .before .if2 .left) (from e) (to e)
+
+pub section-spec : {M : Type 1} → statement M
+section-spec =
+    tie.close
+    (tie.spec
+    is-book-requires
+    sub-result
+    part-result-start
+    part-result-end
+    returns
+    sub-result-2
+    part-result-start-2
+    part-result-end-2
+    returns-2
+    head-in-requires
+    start-of-requires
+    add-start-of
+    start-of-requires-2
+    sub-result-3
+    part-result-start-3
+    part-result-end-3
+    returns-3)
