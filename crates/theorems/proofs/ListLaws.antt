@@ -2,12 +2,14 @@
 -- Assumes nothing.
 use Prim.Native.Nat.{ℕ, zero, suc, _+_, _≤_, _<_}
 use mathlib.Core.Path.{_≡_, refl, sym, ap, ap₂, _∙_, subst}
-use mathlib.Core.Bool.{Bool, true, false, _&&_, _||_, not, cond, true≢false, false≢true, or-true}
+use mathlib.Core.Bool.{Bool, true, false, _&&_, _||_, not, cond, true≢false, false≢true, or-true, or-assoc}
 use mathlib.Core.Logic.{_⊎_, inl, inr}
 use mathlib.Core.List.{List, [], _∷_, _++_, map, List·Memᴰ, List·Memᴰ·head, List·Memᴰ·tail, List·Memᴰ·cases-cons, List·Memᴰ·not-nil, Memᴰ·cast, List·Memᴰ·append-cases}
 use native.Mathlib.Nat.{not-suc-le-zero, le-of-suc-le-suc, zero-lt-suc, add-suc, suc-add, add-zero, zero-add, le-refl}
 use native.Mathlib.Omega.{arith}
+use lib.Dec.{ltb, leb·suc-zero, leb·suc-suc}
 use lib.ListN.{length, getD}
+use borrow.Author.Tests.{lt-ltb}
 use Rattle.rules.specs.Lists.{every, some, keep, first, numbered, pairwise, tabulateFrom, tabulate, upTo}
 use Rattle.sets.proofs.Laws.{both}
 
@@ -70,6 +72,18 @@ module _ {A : Type 0} where
       let (i, h, e) = numbered-mem (suc n) xs d m in
       (suc i, omega arith, e ∙ ap (λ k. (k, getD xs i d)) (suc-add n i ∙ sym (add-suc n i)))
 
+  pub length-numbered : (n : ℕ) (xs : List A) → length (numbered n xs) ≡ length xs
+  unfolding numbered
+  length-numbered n [] = refl
+  length-numbered n (x ∷ xs) = ap suc (length-numbered (suc n) xs)
+
+  pub getD-numbered : (n : ℕ) (xs : List A) (d : A) (e : ℕ × A) (i : ℕ) → i < length xs → getD (numbered n xs) i e ≡ (n + i, getD xs i d)
+  unfolding numbered
+  getD-numbered n [] d e i h = absurd (not-suc-le-zero h)
+  getD-numbered n (x ∷ xs) d e zero h = ap (λ k. (k, x)) (sym (add-zero n))
+  getD-numbered n (x ∷ xs) d e (suc i) h =
+      getD-numbered (suc n) xs d e i (le-of-suc-le-suc h) ∙ ap (λ k. (k, getD xs i d)) (suc-add n i ∙ sym (add-suc n i))
+
   pub mem-numbered : (n : ℕ) (xs : List A) (d : A) (i : ℕ) → i < length xs → List·Memᴰ (n + i, getD xs i d) (numbered n xs)
   unfolding numbered
   mem-numbered n [] d i h = absurd (not-suc-le-zero h)
@@ -86,6 +100,11 @@ module _ {A : Type 0} where
       go : {x : A} → List·Memᴰ x xs ⊎ List·Memᴰ x ys → p x ≡ true
       go (inl m) = every-mem p xs h m
       go (inr m) = every-mem p ys k m
+
+  pub some-append : (p : A → Bool) (xs ys : List A) → some p (xs ++ ys) ≡ (some p xs || some p ys)
+  unfolding some
+  some-append p [] ys = refl
+  some-append p (x ∷ xs) ys = ap (λ (b : Bool). p x || b) (some-append p xs ys) ∙ sym (or-assoc (p x) (some p xs) (some p ys))
 
   pub keep-append : (p : A → Bool) (xs ys : List A) → keep p (xs ++ ys) ≡ keep p xs ++ keep p ys
   unfolding keep
@@ -180,6 +199,16 @@ module _ {A : Type 0} where
       go true k = zero-lt-suc (length xs)
       go false k = omega arith
 
+  -- some element passes exactly if the first that does is one of them
+  pub some-first : (p : A → Bool) (xs : List A) → some p xs ≡ ltb (first p xs) (length xs)
+  unfolding some first
+  some-first p [] = sym (leb·suc-zero 0)
+  some-first p (x ∷ xs) = go (p x) (some-first p xs)
+    where
+      go : (b : Bool) → some p xs ≡ ltb (first p xs) (length xs) → (b || some p xs) ≡ ltb (cond b zero (suc (first p xs))) (suc (length xs))
+      go true e = sym (lt-ltb zero (suc (length xs)) (zero-lt-suc (length xs)))
+      go false e = e ∙ sym (leb·suc-suc (suc (first p xs)) (length xs))
+
   -- ---- tabulate
 
   pub length-tabulateFrom : (i n : ℕ) (f : ℕ → A) → length (tabulateFrom i n f) ≡ n
@@ -202,15 +231,19 @@ module _ {A : Type 0} where
   unfolding tabulate
   getD-tabulate n f k d h = getD-tabulateFrom 0 n f k d h ∙ ap f (zero-add k)
 
-pub upTo-mem : (n : ℕ) {u : ℕ} → List·Memᴰ u (upTo n) → u < n
+pub length-upTo : (n : ℕ) → length (upTo n) ≡ n
 unfolding upTo
+length-upTo n = length-tabulate n (λ i. i)
+
+pub getD-upTo : (n i d : ℕ) → i < n → getD (upTo n) i d ≡ i
+unfolding upTo
+getD-upTo n i d h = getD-tabulate n (λ i. i) i d h
+
+pub upTo-mem : (n : ℕ) {u : ℕ} → List·Memᴰ u (upTo n) → u < n
 upTo-mem n m =
-    let (i, h, e) = mem-getD (tabulate n (λ i. i)) 0 m in
-    let l : i < n = rw (length-tabulate n (λ i. i)) at h in
-    omega (arith, getD-tabulate n (λ i. i) i 0 l)
+    let (i, h, e) = mem-getD (upTo n) 0 m in
+    let l : i < n = rw (length-upTo n) at h in
+    omega (arith, getD-upTo n i 0 l)
 
 pub mem-upTo : (n u : ℕ) → u < n → List·Memᴰ u (upTo n)
-unfolding upTo
-mem-upTo n u h =
-    Memᴰ·cast (sym (getD-tabulate n (λ i. i) u 0 h))
-    (getD-mem (tabulate n (λ i. i)) u 0 (omega (arith, length-tabulate n (λ (i : ℕ). i))))
+mem-upTo n u h = Memᴰ·cast (sym (getD-upTo n u 0 h)) (getD-mem (upTo n) u 0 (omega (arith, length-upTo n)))
