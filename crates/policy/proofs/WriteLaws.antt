@@ -1,33 +1,22 @@
--- The laws of the rows that a request writes: a row replaced, a row more, and a run of re-locks.
+-- The laws of the rows that a request writes: a row replaced, and a row more.
 -- Assumes nothing.
-use Prim.Native.Nat.{ℕ, suc, _+_, _*_, _^_, _≤_, _<_}
-use mathlib.Core.Path.{_≡_, refl, sym, ap, ap₂, _∙_}
-use mathlib.Core.Bool.{Bool, true, false, _&&_, not, cond}
-use mathlib.Core.List.{List, [], _∷_, _++_, map}
-use native.Mathlib.Nat.{add-zero, suc-mul}
+use Prim.Native.Nat.{ℕ, _+_, _*_, _^_, _≤_, _<_}
+use mathlib.Core.Path.{_≡_, ap, _∙_}
+use mathlib.Core.List.{List, [], _∷_, _++_}
 use native.Mathlib.Numerals.{add-one}
 use native.Mathlib.Omega.{arith}
-use lib.Dec.{eqb}
-use lib.ListN.{length, drop, getD, set, length-append, length-set, List·getD-map}
-use lib.Seq.{map-set-same}
-use Rattle.rows.specs.Number.{bytesOf, stored, joined}
-use Rattle.rows.proofs.Laws.{stored-add}
+use lib.ListN.{length, set}
+use Rattle.rows.specs.Number.{bytesOf, stored}
 use Rattle.rows.proofs.Table.{rows-stored, rows-more}
 use Rattle.rows.proofs.Rest.{rest-stored, same-stored}
 use Rattle.rules.specs.Layer.{token}
-use Rattle.rules.specs.Lists.{keep, upTo}
 use Rattle.rules.specs.Book.{Resource, none}
 use Rattle.rules.specs.Bytes.{innerRow, resourceRow, resourceOf, tokenOf, resourcesIn, tokensIn}
 use Rattle.rules.specs.declared.Token.{Token}
-use Rattle.theorems.proofs.RowLaws.{TokenFits, ResourceFits, inner-wide, inner-read, resource-wide, resource-read}
-use Rattle.theorems.proofs.ListLaws.{keep-append}
-use Rattle.theorems.proofs.HostLaws.{upTo-next}
-use Rattle.layer.specs.Laid.{tokenRow, noResource}
-use Rattle.layer.specs.Cover.{orderOf}
-use Rattle.layer.proofs.Read.{resource, length-resources}
-use Rattle.policy.specs.Write.{Resources, row, listed, locked, waitsIn, waitersIn, relocked, relockRows, TokenAdded, ResourceAdded}
-
--- ---- one row
+use Rattle.theorems.proofs.RowLaws.{ResourceFits, inner-wide, inner-read, resource-wide, resource-read}
+use Rattle.layer.specs.Laid.{tokenRow}
+use Rattle.layer.proofs.Read.{resource}
+use Rattle.policy.specs.Write.{Resources, row, listed, locked, TokenAdded, ResourceAdded}
 
 -- a resource written over row i
 module _ (n i : ℕ) (rs rs' : List ℕ) (room : n * 12 ≤ length rs) (there : i < n) where
