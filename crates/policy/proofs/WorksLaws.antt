@@ -12,7 +12,7 @@ use Rattle.rows.proofs.Laws.{stored-add, stored-none}
 use Rattle.rules.specs.Layer.{Layer, vertexFor, withVertex}
 use Rattle.rules.specs.Book.{Book, Resource, resource, withResources, withList, withLock}
 use Rattle.rules.specs.Book as book
-use Rattle.rules.specs.Requests.{Done, done, order, _then_, outerVertex, innerVertex, relock}
+use Rattle.rules.specs.Requests.{Done, done, order, _then_, vertexOrders, outerVertex, innerVertex, relock}
 use Rattle.rules.specs.Bytes.{Tables, tables, bookIn, headOf, laid, Room, resourcesIn}
 use Rattle.rules.specs.Refusals.{Request, work}
 use Rattle.rules.specs.Calls.{change, changeBy, changing, rowsLent, orderRow, orderRows}
@@ -224,6 +224,10 @@ pub works-list : (h : Head) (iv it ov ot rs rs' list : List ℕ) (at r l : ℕ) 
 unfolding withList resource bookIn orderRows joined
 works-list h iv it ov ot rs rs' list at r l p =
     rw add-zero at (works-rows h iv it ov ot rs rs' list list at [] p (sym (stored-none (at * 3) list)))
+
+pub lock-orders : (r s : ℕ) (b : Book) → length (lockWith r s b .orders) ≡ length (vertexOrders 1 2 (b .outer) s) + 1
+unfolding _then_ outerVertex relock done
+lock-orders r s b = length-append (vertexOrders 1 2 (b .outer) s) (order 3 r (vertexFor (b .outer) s) ∷ [])
 
 -- ---- find or make the outer vertex for s, and re-lock r with it; l and k are the layer's shape and the head afterwards as the code has them
 
