@@ -4,6 +4,7 @@ use Prim.Native.Nat.{ℕ, _+_, _*_, _^_, _≤_, _<_}
 use mathlib.Core.Path.{_≡_, refl, sym, ap, ap₂, _∙_, subst}
 use mathlib.Core.Bool.{Bool, true, false}
 use mathlib.Core.List.{List, [], _∷_, _++_}
+use native.Mathlib.Nat.{mul-le-mul-right}
 use native.Mathlib.Numerals.{add-one}
 use native.Mathlib.Omega.{arith}
 use lib.Dec.{lit≤}
@@ -31,6 +32,8 @@ use Rattle.theorems.proofs.CountLaws.{newVertices-one, withVertex-vertices, wit
 use Rattle.theorems.proofs.PlanLaws.{revoke-plan, revoke-outer}
 use Rattle.layer.specs.Laid.{layerOf}
 use Rattle.layer.specs.Cover.{orderOf}
+use Rattle.layer.specs.Make.{Fits}
+use Rattle.layer.specs.declared.walk.Shape.{Shape}
 use Rattle.layer.proofs.Read.{length-sets, layer-sets, layer-tokens}
 use Rattle.layer.proofs.MakeLaws.{sets-made}
 use Rattle.policy.specs.Write.{Resources, row, listed}
@@ -70,27 +73,36 @@ known q h t list ok =
 pub few-orders : (kv kt : ℕ) (L : Layer) (s : ℕ) → length (vertexOrders kv kt L s) ≤ 1 + length (withVertex L s .tokens)
 few-orders kv kt L s = omega (arith, vertexOrders-count kv kt L s, newVertices-one L s, withVertex-tokens L s)
 
--- room for a lock, where the layer with the vertex is within the limits
+-- room for a vertex, where the layer with it is within the limits
+pub vertex-allowed : {l : Shape} {vs ts list : List ℕ} {s at : ℕ} → let L = layerOf l ts vs in
+    4 ≤ l .width → l .width ≤ 5 → 4096 * l .width ≤ length ts → length (withVertex L s .tokens) ≤ 4096
+    → length (withVertex L s .sets) ≤ 512 → length (withVertex L s .sets) * 8 ≤ length vs → (at + length (vertexOrders 0 0 L s)) * 3 ≤ length list
+    → Fits l ts vs s list at
+vertex-allowed {l} {vs} {ts} {list} {s} {at} low high long tokens sets room orders =
+    let L = layerOf l ts vs in
+    let v = layer-sets l ts vs in
+    let before : l .tokens ≤ 4096 = omega (arith, withVertex-tokens L s, layer-tokens l ts vs) in
+    record {
+      low = low;
+      high = high;
+      rows = omega (arith, mul-le-mul-right (l .width) before);
+      sets = omega (arith, withVertex-vertices L s, v);
+      vertices< = omega (arith, withVertex-vertices L s, v);
+      rows-then = omega (arith, mul-le-mul-right (l .width) tokens);
+      sets-then = room;
+      orders-then = orders;
+    }
+
+-- room for a lock
 pub lock-allowed : {h : Head} {ov ot rs list : List ℕ} {r s at : ℕ} → let L = layerOf (outerShape h) ot ov in
     512 * 8 ≤ length ov → 4096 * 4 ≤ length ot → length (withVertex L s .sets) ≤ 512 → length (withVertex L s .tokens) ≤ 4096
     → h .resources .0 * 12 ≤ length rs → r < h .resources .0 → (at + length (vertexOrders 1 2 L s) + 1) * 3 ≤ length list
     → LockRoom h ov ot rs list r s at
 lock-allowed {h} {ov} {ot} {rs} {list} {r} {s} {at} lv lt sets tokens rows there orders =
     let L = layerOf (outerShape h) ot ov in
-    let v = layer-sets (outerShape h) ot ov in
-    let k = layer-tokens (outerShape h) ot ov in
     record {
       fits =
-          record {
-            low = lit≤ tt;
-            high = lit≤ tt;
-            rows = omega (arith, withVertex-tokens L s, k);
-            sets = omega (arith, withVertex-vertices L s, v);
-            vertices< = omega (arith, withVertex-vertices L s, v);
-            rows-then = omega arith;
-            sets-then = omega arith;
-            orders-then = omega (arith, vertexOrders-count 0 0 L s, vertexOrders-count 1 2 L s);
-          };
+          vertex-allowed (lit≤ tt) (lit≤ tt) lt tokens sets (omega arith) (omega (arith, vertexOrders-count 0 0 L s, vertexOrders-count 1 2 L s));
       rows = rows;
       there = there;
       orders = orders;

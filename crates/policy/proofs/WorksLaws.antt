@@ -8,11 +8,11 @@ use native.Mathlib.Omega.{arith}
 use lib.ListN.{length, take, drop, getD, length-append, take-append-drop}
 use lib.Seq.{drop-drop, length-take-le}
 use Rattle.rows.specs.Number.{stored, joined}
-use Rattle.rows.proofs.Laws.{stored-add, stored-none}
+use Rattle.rows.proofs.Laws.{stored-add, stored-none, length-stored}
 use Rattle.rules.specs.Layer.{Layer, vertexFor, withVertex}
 use Rattle.rules.specs.Book.{Book, Resource, resource, withResources, withList, withLock}
 use Rattle.rules.specs.Book as book
-use Rattle.rules.specs.Requests.{Done, done, order, _then_, vertexOrders, outerVertex, innerVertex, relock}
+use Rattle.rules.specs.Requests.{Done, done, order, _then_, vertexOrders, outerVertex, innerVertex, relock, encrypt}
 use Rattle.rules.specs.Bytes.{Tables, tables, bookIn, headOf, laid, Room, resourcesIn}
 use Rattle.rules.specs.Refusals.{Request, work}
 use Rattle.rules.specs.Calls.{change, changeBy, changing, rowsLent, orderRow, orderRows}
@@ -28,8 +28,8 @@ use Rattle.layer.specs.Cover.{orderOf}
 use Rattle.layer.specs.Make.{Fits, VertexFor}
 use Rattle.layer.specs.declared.walk.Shape.{Shape}
 use Rattle.layer.specs.declared.make.Made.{Made}
-use Rattle.layer.proofs.Read.{layer-sets, layer-tokens}
-use Rattle.policy.specs.Write.{Resources, listed, locked}
+use Rattle.layer.proofs.Read.{length-resources, layer-sets, layer-tokens}
+use Rattle.policy.specs.Write.{Resources, ResourceAdded, listed, locked}
 use Rattle.policy.specs.Judge.{innerShape, outerShape}
 use Rattle.policy.specs.Step.{withInner, withOuter}
 use Rattle.policy.specs.Apply.{Grown, Past, Rest, Works, lockWith, LockRoom, Accepted, applied}
@@ -224,6 +224,46 @@ pub works-list : (h : Head) (iv it ov ot rs rs' list : List ℕ) (at r l : ℕ) 
 unfolding withList resource bookIn orderRows joined
 works-list h iv it ov ot rs rs' list at r l p =
     rw add-zero at (works-rows h iv it ov ot rs rs' list list at [] p (sym (stored-none (at * 3) list)))
+
+-- the head with n resources
+abbrev pub counting : Head → ℕ → Head
+counting h n =
+    record {
+      mode = h .mode;
+      users = h .users;
+      resources = record { 0 = n };
+      «inner_vertices» = h .«inner_vertices»;
+      «inner_tokens» = h .«inner_tokens»;
+      «outer_vertices» = h .«outer_vertices»;
+      «outer_tokens» = h .«outer_tokens»;
+    }
+
+-- a new resource with list l and inner vertex v
+pub works-encrypt : (h : Head) (iv it ov ot rs rs' list l' : List ℕ) (at l v : ℕ) → ResourceAdded (h .resources .0) l v rs rs'
+    → l' ≡ stored (at * 3) (orderOf 7 (h .resources .0) v) list
+    → let t = tables iv it ov ot rs in
+    Works (encrypt l v (bookIn h t)) h t list at (step (counting h (h .resources .0 + 1)) (at + 1)) (tables iv it ov ot rs') l'
+unfolding encrypt done withResources bookIn orderRows orderRow joined
+works-encrypt h iv it ov ot rs rs' list l' at l v p o =
+    record {
+      book = ap (withResources (bookIn h (tables iv it ov ot rs))) (p .rows);
+      grown = record { innerVertices = omega arith; innerTokens = omega arith; outerVertices = omega arith; outerTokens = omega arith; resources = omega arith };
+      past =
+          record {
+            innerVertices = past-none;
+            innerTokens = past-none;
+            outerVertices = past-none;
+            outerTokens = past-none;
+            resources = record { rest = p .rest; same = p .same };
+          };
+      orders = rw (length-resources (h .resources .0) rs) o;
+      next = refl;
+    }
+
+-- the list keeps its length
+pub works-length : {d : Done} {h : Head} {t u : Tables} {list l' : List ℕ} {at : ℕ} {s : Step} → (s .at) * 3 ≤ length list → Works d h t list at s u l' → length l' ≡ length list
+works-length {d} {list = list} {at = at} room p =
+    ap length (p .orders) ∙ length-stored (at * 3) (orderRows (d .orders)) list (omega (arith, p .next, length-orders (d .orders)))
 
 pub lock-orders : (r s : ℕ) (b : Book) → length (lockWith r s b .orders) ≡ length (vertexOrders 1 2 (b .outer) s) + 1
 unfolding _then_ outerVertex relock done
