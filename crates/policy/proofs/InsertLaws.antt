@@ -205,11 +205,15 @@ module _ (h : Head) (iv it ov ot rs list : List ℕ) (l : ℕ) (ok : Accepted (i
                 let (sets, tokens) = outer-limits in
                 omega (arith, count-is, few-orders 4 5 I l, inner-limits .1, few-orders 1 2 O l)
 
+            all : Works (work (inserts l) b) h t list 0 a (tables iv' it' ov' ot' rs'') l3
+            unfolding work
+            all =
+                let room : a .at * 3 ≤ length list = omega (arith, count-is, locks-are, k .orders) in
+                rw (insert-locks l b not-free, resources-count h iv it ov ot rs) (works-next (lockWith (h .resources .0) l) room both locked)
+
+            pub insert-lock-same : (length rs'' ≡ length rs) × (length l3 ≡ length list)
+            insert-lock-same = (all .past .resources .same, works-length (omega (arith, count-is, locks-are, k .orders)) all)
+
             pub insert-lock-done : TableBytes (tables iv' it' ov' ot' rs'')
                 → applied (record { head = a .head; count = a .at }) (tables iv' it' ov' ot' rs'') l3 ≡ change (inserts l) h t list
-            unfolding work
-            insert-lock-done bytes =
-                let room : a .at * 3 ≤ length list = omega (arith, count-is, locks-are, k .orders) in
-                let all = works-next (lockWith (h .resources .0) l) room both locked in
-                works-change (inserts l) h t (tables iv' it' ov' ot' rs'') list l3 (record { head = a .head; count = a .at }) a ok bytes
-                (rw (insert-locks l b not-free, resources-count h iv it ov ot rs) all) refl refl
+            insert-lock-done bytes = works-change (inserts l) h t (tables iv' it' ov' ot' rs'') list l3 (record { head = a .head; count = a .at }) a ok bytes all refl refl
