@@ -1,8 +1,8 @@
 -- The work of an accepted request on the tables: the room that each of its steps has, and that the steps are the work that the rules give.
 -- Assumes nothing.
 use Prim.Native.Nat.{ℕ, _+_, _*_, _^_, _≤_, _<_}
-use mathlib.Core.Path.{_≡_, refl, sym, ap, ap₂, _∙_, subst}
-use mathlib.Core.Bool.{Bool, true, false}
+use mathlib.Core.Path.{_≡_, refl, sym, ap, ap₂, _∙_}
+use mathlib.Core.Bool.{true}
 use mathlib.Core.List.{List, [], _∷_, _++_}
 use native.Mathlib.Nat.{mul-le-mul-right}
 use native.Mathlib.Numerals.{add-one}
@@ -16,14 +16,13 @@ use Rattle.rows.proofs.Rest.{rest-stored, same-stored}
 use Rattle.sets.specs.Sets.{has, minus, single}
 use Rattle.rules.specs.Layer.{Layer, withVertex}
 use Rattle.rules.specs.Book.{Book, Resource, resource, withResources, withList}
-use Rattle.rules.specs.Book as book
 use Rattle.rules.specs.Sound.{sound}
-use Rattle.rules.specs.Requests.{Done, done, _then_, outerVertex, vertexOrders, withSet, join, revoke}
-use Rattle.rules.specs.Refusals.{Request, joins, inserts, revokes, work}
+use Rattle.rules.specs.Requests.{Done, done, _then_, vertexOrders, withSet, join, revoke}
+use Rattle.rules.specs.Refusals.{Request, joins, revokes, work}
 use Rattle.rules.specs.Bytes.{Tables, tables, head, bookIn, setRow, setsIn, resourcesIn}
 use Rattle.rules.specs.Calls.{rowsLent, orderRow, orderRows, change}
 use Rattle.rules.specs.declared.Head.{Head}
-use Rattle.theorems.specs.Plan.{newVertices, newTokens, revokedList}
+use Rattle.theorems.specs.Plan.{revokedList}
 use Rattle.theorems.proofs.SoundLaws.{Counts, sound-counts}
 use Rattle.theorems.proofs.ByteLaws.{Long, short-long, TableBytes}
 use Rattle.theorems.proofs.RowLaws.{set-wide}
@@ -37,10 +36,9 @@ use Rattle.layer.specs.declared.walk.Shape.{Shape}
 use Rattle.layer.proofs.Read.{length-sets, layer-sets, layer-tokens}
 use Rattle.layer.proofs.MakeLaws.{sets-made}
 use Rattle.policy.specs.Write.{Resources, row, listed}
-use Rattle.policy.specs.Judge.{Ready, outerShape}
+use Rattle.policy.specs.Judge.{outerShape}
 use Rattle.policy.specs.Apply.{Past, Works, lockWith, LockRoom, Accepted, applied}
 use Rattle.policy.specs.declared.step.Step.{Step}
-use Rattle.policy.specs.declared.apply.Applied.{Applied}
 use Rattle.policy.proofs.ReadyLaws.{Sizes, sizes, resources-count, users-count, inner-count, outer-count, row-read}
 use Rattle.policy.proofs.WorksLaws.{step, past-none, works-list, works-next, works-change, outer-in, lock-orders}
 

@@ -3,7 +3,7 @@
 use Prim.Native.Nat.{ℕ, _+_, _*_, _^_, _≤_, _<_}
 use mathlib.Core.Path.{_≡_, refl, sym, ap, ap₂, _∙_, subst}
 use mathlib.Core.Bool.{Bool, true, false, _&&_, cond}
-use mathlib.Core.List.{List, [], _∷_, _++_, append-nil}
+use mathlib.Core.List.{List, [], append-nil}
 use native.Mathlib.Omega.{arith}
 use lib.Dec.{eqb, lit≤}
 use lib.ListN.{length}
@@ -11,12 +11,12 @@ use Rattle.rows.specs.Number.{stored}
 use Rattle.rules.specs.Layer.{Layer, vertexFor, withVertex}
 use Rattle.rules.specs.Book.{Book, withResources}
 use Rattle.rules.specs.Book as book
-use Rattle.rules.specs.Requests.{Done, done, _then_, agrees, innerVertex, outerVertex, relock, vertexOrders, encrypt, insert}
+use Rattle.rules.specs.Requests.{Done, done, _then_, innerVertex, outerVertex, relock, vertexOrders, encrypt, insert}
 use Rattle.rules.specs.Refusals.{inserts, work}
 use Rattle.rules.specs.Bytes.{Tables, tables, bookIn}
 use Rattle.rules.specs.Calls.{change}
 use Rattle.rules.specs.declared.Head.{Head}
-use Rattle.theorems.specs.Plan.{newVertices, newTokens, insertFree}
+use Rattle.theorems.specs.Plan.{insertFree}
 use Rattle.theorems.proofs.ByteLaws.{TableBytes}
 use Rattle.theorems.proofs.RequestLaws.{Allowed}
 use Rattle.theorems.proofs.CountLaws.{vertexOrders-count}
@@ -32,8 +32,7 @@ use Rattle.policy.specs.Step.{withInner}
 use Rattle.policy.specs.Apply.{Works, lockWith, LockRoom, Accepted, applied}
 use Rattle.policy.specs.declared.plan.Plan.{Plan}
 use Rattle.policy.specs.declared.step.Step.{Step}
-use Rattle.policy.specs.declared.apply.Applied.{Applied}
-use Rattle.policy.proofs.ReadyLaws.{resources-count, users-count}
+use Rattle.policy.proofs.ReadyLaws.{resources-count}
 use Rattle.policy.proofs.WorksLaws.{step, counting, works-inner, works-encrypt, works-next, works-length, works-change, inner-in, outer-in, lock-orders}
 use Rattle.policy.proofs.ApplyLaws.{Known, known, few-orders, vertex-allowed, lock-allowed}
 

@@ -1,8 +1,8 @@
 -- Pieces of work on the tables, one after the other, and the whole of a request's work as its call's change.
 -- Assumes nothing.
 use Prim.Native.Nat.{ℕ, _+_, _*_, _-_, _≤_, _<_}
-use mathlib.Core.Path.{_≡_, refl, sym, ap, ap₂, _∙_, subst}
-use mathlib.Core.List.{List, [], _∷_, _++_, map, append-assoc}
+use mathlib.Core.Path.{_≡_, refl, sym, ap, _∙_, subst}
+use mathlib.Core.List.{List, [], _∷_, _++_, append-assoc}
 use native.Mathlib.Nat.{mul-le-mul-right, add-sub-of-le, add-zero, zero-add, zero-mul}
 use native.Mathlib.Omega.{arith}
 use lib.ListN.{length, take, drop, getD, length-append, take-append-drop}
@@ -20,7 +20,7 @@ use Rattle.rules.specs.declared.Head.{Head}
 use Rattle.rules.specs.declared.Order.{Order}
 use Rattle.rules.specs.declared.Changed.the-variants.{Done as Did}
 use Rattle.theorems.proofs.CountLaws.{newVertices-one, withVertex-vertices, withVertex-tokens}
-use Rattle.theorems.proofs.ByteLaws.{TableBytes, sectionsOf, head-in, sections-in, sound-room}
+use Rattle.theorems.proofs.ByteLaws.{TableBytes, head-in, sections-in, sound-room}
 use Rattle.theorems.proofs.RequestLaws.{accepted-long, work-sound}
 use Rattle.theorems.proofs.ServeLaws.{length-orders}
 use Rattle.layer.specs.Laid.{layerOf}
@@ -144,16 +144,16 @@ unfolding bookIn layerOf
 inner-in h t = refl
 
 -- what finding or making a vertex leaves of its layer's two tables
-record Layered (l k : Shape) (L : Layer) (ts vs ts' vs' : List ℕ) : Type 0 where
+record MadeIn (l k : Shape) (L : Layer) (ts vs ts' vs' : List ℕ) : Type 0 where
   layer : layerOf (record { width = l .width; tokens = k .tokens; vertices = k .vertices }) ts' vs' ≡ L
   vertices≤ : l .vertices ≤ k .vertices
   tokens≤ : l .tokens ≤ k .tokens
   vertices-past : Past (k .vertices) 8 vs vs'
   tokens-past : Past (k .tokens) (l .width) ts ts'
 
-layered : (l : Shape) (s at kv kt : ℕ) (ts vs os : List ℕ) (m : Made) (ts' vs' os' : List ℕ) → VertexFor l s at kv kt ts vs os m ts' vs' os'
-    → Layered l (m .shape) (withVertex (layerOf l ts vs) s) ts vs ts' vs'
-layered l s at kv kt ts vs os m ts' vs' os' p =
+made-in : (l : Shape) (s at kv kt : ℕ) (ts vs os : List ℕ) (m : Made) (ts' vs' os' : List ℕ) → VertexFor l s at kv kt ts vs os m ts' vs' os'
+    → MadeIn l (m .shape) (withVertex (layerOf l ts vs) s) ts vs ts' vs'
+made-in l s at kv kt ts vs os m ts' vs' os' p =
     let L = layerOf l ts vs in
     record {
       layer = ap (λ (w : ℕ). layerOf (record { width = w; tokens = m .shape .tokens; vertices = m .shape .vertices }) ts' vs') (sym (p .width)) ∙ p .layer;
@@ -170,7 +170,7 @@ pub works-outer : (h : Head) (iv it ov ot rs ov' ot' list l' : List ℕ) (at s :
 unfolding outerVertex done bookIn layerOf book.withOuter
 works-outer h iv it ov ot rs ov' ot' list l' at s m p =
     let b = bookIn h (tables iv it ov ot rs) in
-    let made = layered (outerShape h) s at 1 2 ot ov list m ot' ov' l' p in
+    let made = made-in (outerShape h) s at 1 2 ot ov list m ot' ov' l' p in
     record {
       book = ap (book.withOuter b) (made .layer);
       grown = record { innerVertices = omega arith; innerTokens = omega arith; outerVertices = made .vertices≤; outerTokens = made .tokens≤; resources = omega arith };
@@ -193,7 +193,7 @@ pub works-inner : (h : Head) (iv it ov ot rs iv' it' list l' : List ℕ) (at s :
 unfolding innerVertex done bookIn layerOf book.withInner
 works-inner h iv it ov ot rs iv' it' list l' at s m p =
     let b = bookIn h (tables iv it ov ot rs) in
-    let made = layered (innerShape h) s at 4 5 it iv list m it' iv' l' p in
+    let made = made-in (innerShape h) s at 4 5 it iv list m it' iv' l' p in
     record {
       book = ap (book.withInner b) (made .layer);
       grown = record { innerVertices = made .vertices≤; innerTokens = made .tokens≤; outerVertices = omega arith; outerTokens = omega arith; resources = omega arith };
