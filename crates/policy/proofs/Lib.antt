@@ -3,3 +3,7 @@ pub mod ReadyLaws
 pub mod PartLaws
 pub mod JudgeLaws
 pub mod RequestCalls
+pub mod WaitLaws
+pub mod WorksLaws
+pub mod ApplyLaws
+pub mod InsertLaws
