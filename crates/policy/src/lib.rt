@@ -4,3 +4,4 @@ pub mod judge;
 pub mod plan;
 pub mod step;
 pub mod write;
+pub mod requests;

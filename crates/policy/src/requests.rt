@@ -1,0 +1,75 @@
+// The requests that change the book, as calls: each makes every check itself, then plans, then applies.
+// The five tables are iv, it, ov, ot, rs: inner vertices and tokens, outer vertices and tokens, resources. Order rows are three numbers each.
+use crate::apply::{apply_insert, apply_join, apply_revoke};
+use crate::judge::{judge_insert, judge_join, judge_revoke};
+use crate::plan::Judged;
+use rules::{Changed, Head, Resource};
+use sets::{User, Users};
+use sound::{check, Checked};
+ghost use mathlib.Core.Path.{_≡_};
+ghost use Rattle.rules.specs.Bytes.{tables};
+ghost use Rattle.rules.specs.Refusals.{joins, inserts, revokes};
+ghost use Rattle.rules.specs.Calls.{change, changing};
+
+// A new user: a vertex in both layers.
+pub fn join(h: Head, iv: &mut [u8], it: &mut [u8], ov: &mut [u8], ot: &mut [u8], rs: &mut [u8], orders: &mut [u16]) -> Changed
+    ensures { λ c. ⌜ changing c (tables (now (iv .exit)) (now (it .exit)) (now (ov .exit)) (now (ot .exit)) (now (rs .exit))) (now (orders .exit)) ≡ change joins h (tables (now (iv .entry)) (now (it .entry)) (now (ov .entry)) (now (ot .entry)) (now (rs .entry))) (now (orders .entry)) ⌝ }
+{
+    let k = check(h, iv, it, ov, ot, rs);
+    match k {
+        Checked::No(n) => Changed::No(n),
+        Checked::Sound => {
+            let j = judge_join(h, iv, it, ov, ot, rs, orders.len() / 3);
+            match j {
+                Judged::No(n) => Changed::No(n),
+                Judged::Go(_) => {
+                    let a = apply_join(h, iv, it, ov, ot, rs, orders);
+                    let head = a.head;
+                    Changed::Done(head, a.count)
+                }
+            }
+        }
+    }
+}
+
+// A new resource for a list of users.
+pub fn insert(h: Head, iv: &mut [u8], it: &mut [u8], ov: &mut [u8], ot: &mut [u8], rs: &mut [u8], orders: &mut [u16], l: Users) -> Changed
+    ensures { λ c. ⌜ changing c (tables (now (iv .exit)) (now (it .exit)) (now (ov .exit)) (now (ot .exit)) (now (rs .exit))) (now (orders .exit)) ≡ change (inserts (l .0)) h (tables (now (iv .entry)) (now (it .entry)) (now (ov .entry)) (now (ot .entry)) (now (rs .entry))) (now (orders .entry)) ⌝ }
+{
+    let k = check(h, iv, it, ov, ot, rs);
+    match k {
+        Checked::No(n) => Changed::No(n),
+        Checked::Sound => {
+            let j = judge_insert(h, iv, it, ov, ot, rs, l, orders.len() / 3);
+            match j {
+                Judged::No(n) => Changed::No(n),
+                Judged::Go(p) => {
+                    let a = apply_insert(h, iv, it, ov, ot, rs, orders, l, p);
+                    let head = a.head;
+                    Changed::Done(head, a.count)
+                }
+            }
+        }
+    }
+}
+
+// User u leaves the list of r.
+pub fn revoke(h: Head, iv: &mut [u8], it: &mut [u8], ov: &mut [u8], ot: &mut [u8], rs: &mut [u8], orders: &mut [u16], r: Resource, u: User) -> Changed
+    ensures { λ c. ⌜ changing c (tables (now (iv .exit)) (now (it .exit)) (now (ov .exit)) (now (ot .exit)) (now (rs .exit))) (now (orders .exit)) ≡ change (revokes (r .0) (u .0)) h (tables (now (iv .entry)) (now (it .entry)) (now (ov .entry)) (now (ot .entry)) (now (rs .entry))) (now (orders .entry)) ⌝ }
+{
+    let k = check(h, iv, it, ov, ot, rs);
+    match k {
+        Checked::No(n) => Changed::No(n),
+        Checked::Sound => {
+            let j = judge_revoke(h, iv, it, ov, ot, rs, r, u, orders.len() / 3);
+            match j {
+                Judged::No(n) => Changed::No(n),
+                Judged::Go(_) => {
+                    let a = apply_revoke(h, iv, it, ov, ot, rs, orders, r, u);
+                    let head = a.head;
+                    Changed::Done(head, a.count)
+                }
+            }
+        }
+    }
+}
