@@ -1,2 +1,3 @@
 pub mod WriteLaws
 pub mod WaitLaws
+pub mod WorksLaws
