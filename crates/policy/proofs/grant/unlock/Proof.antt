@@ -1,37 +1,37 @@
+-- `policy::grant::unlock` meets its contract. Assumes nothing.
+use Rattle.policy.proofs.GrantWorks.{unlock-none, unlock-relocked}
 use borrow.Author.Needs.{needs}
 use Rattle.policy.proofs.grant.unlock.Statement.{statement}
 use Rattle.policy.proofs.grant.unlock.Tie as tie
-use Rattle.policy.proofs.grant.unlock.Reads as reads
-use Rattle.policy.proofs.grant.unlock.Lts as lts
-use Rattle.policy.proofs.write.relock.Reads as relock-reads
 
--- src/grant.rt:111:9
 returns : tie.Need-returns
-returns c = ?
+returns c = λ iv it ov ot. unlock-none _ _ (c .if1 .taken)
 
--- src/grant.rt:114:13
 cast-n : tie.Need-cast-n
 cast-n c = search needs
 
--- src/grant.rt:115:5
 relock-requires : tie.Need-relock-requires
-relock-requires c κs = ?
+relock-requires c κs = let s = c .before .before .before .before in
+    let some = s .if1 .left in
+    let room = s .before .before .before .before .pre .orders some in
+    search needs
 
--- src/grant.rt:116:22
 add-t14 : tie.Need-add-t14
-add-t14 c = ?
+add-t14 c = let s = c .before .before .before .before .before .before .before .before .before .before in
+    let room = s .before .before .before .before .pre .orders (s .if1 .left) in
+    search needs
 
--- src/grant.rt:106:1
 same-length : tie.Need-same-length
 same-length c = search needs
 
--- src/grant.rt:106:1
 same-length-2 : tie.Need-same-length-2
 same-length-2 c = search needs
 
--- src/grant.rt:106:1
 returns-2 : tie.Need-returns-2
-returns-2 c = ?
+returns-2 c = λ iv it ov ot.
+    let call = c .before .before .before .before .before in
+    let s = call .before .before .before .before .before in
+    unlock-relocked _ _ (s .if1 .left) (call .relock .ensures .0) (call .relock .ensures .1)
 
 pub unlock-spec : {M : Type 1} → statement M
 unlock-spec =

@@ -1,29 +1,25 @@
+-- `policy::grant::waiting` meets its contract. Assumes nothing.
+use mathlib.Core.Path.{sym, ap, _∙_}
+use lib.ListN.{length}
+use Rattle.policy.proofs.GrantWorks.{full-waits, none-let-in, let-in-waits}
 use borrow.Author.Needs.{needs}
 use Rattle.policy.proofs.grant.waiting.Statement.{statement}
 use Rattle.policy.proofs.grant.waiting.Tie as tie
-use Rattle.policy.proofs.grant.waiting.Reads as reads
-use Rattle.policy.proofs.grant.waiting.Lts as lts
-use Rattle.policy.proofs.write.count_waiting.Reads as count-waiting-reads
 
--- src/grant.rt:70:9
 returns : tie.Need-returns
-returns c = ?
+returns c = full-waits _ _ _ _ _ (c .if1 .taken)
 
--- src/grant.rt:73:9
 returns-2 : tie.Need-returns-2
-returns-2 c = ?
+returns-2 c = none-let-in _ _ _ _ _ (c .if2 .taken)
 
--- src/grant.rt:75:23
 cast-count-waiting : tie.Need-cast-count-waiting
 cast-count-waiting c = search needs
 
--- src/grant.rt:75:5
 count-waiting-requires : tie.Need-count-waiting-requires
 count-waiting-requires c κs = search needs
 
--- src/grant.rt:65:1
 returns-3 : tie.Need-returns-3
-returns-3 c = ?
+returns-3 c = c .count-waiting .ensures ∙ ap length (sym (let-in-waits _ _ _ _ _ (c .before .before .before .before .if1 .left) (c .before .before .if2 .left)))
 
 pub waiting-spec : {M : Type 1} → statement M
 waiting-spec =

@@ -1,0 +1,140 @@
+-- The pieces of a grant: what the code of each leaves is the work that the plan names.
+-- Assumes nothing.
+use Prim.Native.Nat.{ℕ, zero, suc, _+_, _*_, _≤_, _<_}
+use mathlib.Core.Path.{_≡_, refl, sym, ap, ap₂, _∙_, subst}
+use mathlib.Core.Bool.{Bool, true, false, _&&_, not, cond, true≢false, and-false}
+use mathlib.Core.Logic.{_≢_}
+use mathlib.Core.List.{List, [], _∷_, _++_, map, map-map}
+use native.Mathlib.Omega.{arith}
+use lib.Dec.{eqb}
+use lib.ListN.{length, length-map}
+use borrow.Author.Tests.{eq-eqb, ne-eqb, not-true, not-false}
+use Rattle.sets.specs.Sets.{single}
+use Rattle.rows.specs.Number.{stored, joined}
+use Rattle.rules.specs.Layer.{Layer, token, vertexFor}
+use Rattle.rules.specs.Book.{Book, Resource, none, resource, withResources, withLock}
+use Rattle.rules.specs.Book as book
+use Rattle.rules.specs.Lists.{first}
+use Rattle.rules.specs.Bytes.{Tables, tables, bookIn, setsIn, resourcesIn}
+use Rattle.rules.specs.Requests.{Done, done, order, _then_, outerVertex, relock}
+use Rattle.rules.specs.Calls.{orderRow, orderRows}
+use Rattle.rules.specs.declared.Head.{Head}
+use Rattle.rules.specs.declared.Order.{Order}
+use Rattle.theorems.specs.Plan.{relockAll, lockGroup}
+use Rattle.layer.specs.Laid.{isSet, foundIn}
+use Rattle.layer.specs.Cover.{orderOf}
+use Rattle.layer.specs.Make.{setsOnly, VertexFor}
+use Rattle.layer.specs.declared.walk.Shape.{Shape}
+use Rattle.layer.specs.declared.make.Made.{Made}
+use Rattle.layer.specs.declared.table.Found.{Found}
+use Rattle.layer.specs.declared.table.Found.the-variants.{At, Nothing}
+use Rattle.layer.proofs.Steps.{found-at, not-found}
+use Rattle.policy.specs.Write.{Resources, locked, waitersIn, relocked, relockRows, TokenAdded}
+use Rattle.policy.specs.Judge.{outerShape}
+use Rattle.policy.specs.Step.{withOuter}
+use Rattle.policy.specs.Apply.{Works, lockWith}
+use Rattle.policy.specs.Grant.{letInBy, LetInRoom, waitingIn, unlockBy, settleBy}
+use Rattle.policy.specs.declared.plan.Plan.{Plan}
+use Rattle.policy.specs.declared.step.Step.{Step}
+use Rattle.policy.proofs.WorksLaws.{step, past-none, works-none, works-next, works-rows, works-relock, works-outer, outer-in}
+
+-- ---- the folder itself
+
+module _ {h : Head} {iv it ov ot rs list : List ℕ} {at : ℕ} (r v : ℕ) where
+  pub unlock-none : v ≡ none → Works (unlockBy r v (bookIn h (tables iv it ov ot rs))) h (tables iv it ov ot rs) list at (step h at) (tables iv it ov ot rs) list
+  unfolding unlockBy
+  unlock-none e = rw (eq-eqb v none e) works-none
+
+  pub unlock-relocked : {rs' l' : List ℕ} → v ≢ none → Resources (h .resources .0) (locked r none (resourcesIn (h .resources .0) rs)) rs rs'
+      → l' ≡ stored (at * 3) (orderOf 3 r none) list
+      → Works (unlockBy r v (bookIn h (tables iv it ov ot rs))) h (tables iv it ov ot rs) list at (step h (at + 1)) (tables iv it ov ot rs') l'
+  unfolding unlockBy
+  unlock-relocked {rs'} {l'} n p o = rw (ne-eqb v none n) (works-relock h iv it ov ot rs rs' list l' at r none p o)
+
+module _ (b : Book) {h : Head} {t u : Tables} {list l' : List ℕ} {at : ℕ} (r v l : ℕ) {s : Step} {free : Bool} where
+  pub settle-free : free ≡ true → Works (unlockBy r v b) h t list at s u l' → Works (settleBy free r v l b) h t list at s u l'
+  unfolding settleBy
+  settle-free e w = rw e w
+
+  pub settle-lock : free ≡ false → Works (lockWith r l b) h t list at s u l' → Works (settleBy free r v l b) h t list at s u l'
+  unfolding settleBy
+  settle-lock e w = rw e w
+
+-- ---- the neighbours
+
+module _ (h : Head) (rs : List ℕ) (r inner : ℕ) (p : Plan) where
+  pub full-waits : h .mode .0 ≢ 1 → 0 ≡ length (waitingIn h rs r inner p)
+  unfolding waitingIn
+  full-waits n = rw (ne-eqb (h .mode .0) 1 n)
+
+  pub none-let-in : not (p .token) ≡ true → 0 ≡ length (waitingIn h rs r inner p)
+  unfolding waitingIn
+  none-let-in e = rw (not-true (p .token) e, and-false (eqb (h .mode .0) 1))
+
+  pub let-in-waits : h .mode .0 ≡ 1 → not (p .token) ≡ false → waitingIn h rs r inner p ≡ waitersIn (resourcesIn (h .resources .0) rs) r inner (p .holders .0)
+  unfolding waitingIn
+  let-in-waits m e = rw (eq-eqb (h .mode .0) 1 m, not-false (p .token) e)
+
+  -- where any wait
+  pub some-wait : waitingIn h rs r inner p ≢ [] → waitingIn h rs r inner p ≡ waitersIn (resourcesIn (h .resources .0) rs) r inner (p .holders .0)
+  unfolding waitingIn
+  some-wait n = go (eqb (h .mode .0) 1 && p .token) refl
+    where
+      go : (z : Bool) → (eqb (h .mode .0) 1 && p .token) ≡ z
+          → cond z (waitersIn (resourcesIn (h .resources .0) rs) r inner (p .holders .0)) []
+          ≡ waitersIn (resourcesIn (h .resources .0) rs) r inner (p .holders .0)
+      go true e = refl
+      go false e = absurd (n (ap (λ (z : Bool). cond z (waitersIn (resourcesIn (h .resources .0) rs) r inner (p .holders .0)) []) e))
+
+pub none-left : (xs : List ℕ) {k : ℕ} → k ≡ length xs → k ≡ 0 → xs ≡ []
+none-left [] e z = refl
+none-left (x ∷ xs) e z = absurd (omega arith)
+
+pub some-left : {xs : List ℕ} {k : ℕ} → k ≡ length xs → k ≢ 0 → xs ≢ []
+some-left e n q = n (e ∙ ap length q)
+
+relockAll-is : (is : List ℕ) (v : ℕ) (b : Book) → relockAll is v b ≡ done (withResources b (relocked is v (b .resources))) (map (λ i. order 3 i v) is)
+unfolding relockAll relocked relock done _then_ withLock withResources resource
+relockAll-is [] v b = refl
+relockAll-is (i ∷ is) v b = ap (λ (d : Done). relock i v b then (λ c. d)) (relockAll-is is v (relock i v b .book))
+
+relock-rows : (is : List ℕ) (v : ℕ) → relockRows is v ≡ orderRows (map (λ i. order 3 i v) is)
+unfolding relockRows orderRows orderRow
+relock-rows is v = ap joined (sym (map-map orderRow (λ i. order 3 i v) is))
+
+-- the re-locks of a group
+pub works-relocks : (h : Head) (iv it ov ot rs rs' list l' : List ℕ) (at : ℕ) (is : List ℕ) (v : ℕ) {k : ℕ}
+    → Resources (h .resources .0) (relocked is v (resourcesIn (h .resources .0) rs)) rs rs' → l' ≡ stored (at * 3) (relockRows is v) list → k ≡ at + length is
+    → let t = tables iv it ov ot rs in
+    Works (relockAll is v (bookIn h t)) h t list at (step h k) (tables iv it ov ot rs') l'
+unfolding bookIn
+works-relocks h iv it ov ot rs rs' list l' at is v {k} p o e =
+    let os : List Order = map (λ i. order 3 i v) is in
+    let n : at + length os ≡ k = ap (λ (m : ℕ). at + m) (length-map is (λ i. order 3 i v)) ∙ sym e in
+    rw (relockAll-is is v (bookIn h (tables iv it ov ot rs)), ← n) (works-rows h iv it ov ot rs rs' list l' at os p (o ∙ ap (λ (x : List ℕ). stored (at * 3) x list) (relock-rows is v)))
+
+group-some : (is : List ℕ) (s : ℕ) (b : Book) → is ≢ [] → lockGroup is s b ≡ (outerVertex s b then relockAll is (vertexFor (b .outer) s))
+unfolding lockGroup
+group-some [] s b n = absurd (n refl)
+group-some (i ∷ is) s b n = refl
+
+module _ {h : Head} {iv it ov ot rs list : List ℕ} {at : ℕ} (s : ℕ) {is : List ℕ} where
+  pub group-none : is ≡ [] → Works (lockGroup is s (bookIn h (tables iv it ov ot rs))) h (tables iv it ov ot rs) list at (step h at) (tables iv it ov ot rs) list
+  unfolding lockGroup
+  group-none e = rw e works-none
+
+  -- the vertex, then a re-lock each; `l`, `k` and `next` as the code has them
+  pub works-group : {k : Head} {ov' ot' rs' l1 l2 : List ℕ} {next : ℕ} {l : Shape} {m : Made} → is ≢ [] → next * 3 ≤ length list
+      → l ≡ outerShape h → VertexFor l s at 1 2 ot ov list m ot' ov' l1
+      → Resources (h .resources .0) (relocked is (m .vertex) (resourcesIn (h .resources .0) rs)) rs rs' → l2 ≡ stored (m .at * 3) (relockRows is (m .vertex)) l1
+      → next ≡ m .at + length is → k ≡ withOuter h (m .shape)
+      → Works (lockGroup is s (bookIn h (tables iv it ov ot rs))) h (tables iv it ov ot rs) list at (step k next) (tables iv it ov' ot' rs') l2
+  works-group {k} {ov'} {ot'} {rs'} {l1} {l2} {next} {l} {m} some room shape p q o count e =
+      let p' : VertexFor (outerShape h) s at 1 2 ot ov list m ot' ov' l1 = subst (λ (x : Shape). VertexFor x s at 1 2 ot ov list m ot' ov' l1) shape p in
+      let t = tables iv it ov ot rs in
+      let v : m .vertex ≡ vertexFor (bookIn h t .outer) s = p' .vertex ∙ ap (λ (L : Layer). vertexFor L s) (sym (outer-in h t)) in
+      let one = works-outer h iv it ov ot rs ov' ot' list l1 at s m p' in
+      let two = works-relocks (withOuter h (m .shape)) iv it ov' ot' rs rs' l1 l2 (m .at) is (m .vertex) q o count in
+      let all : Works (outerVertex s (bookIn h t) then relockAll is (vertexFor (bookIn h t .outer) s)) h t list at (step k next) (tables iv it ov' ot' rs') l2
+      = rw (e, ← v) (works-next (relockAll is (m .vertex)) room one two) in
+      subst (λ (d : Done). Works d h t list at (step k next) (tables iv it ov' ot' rs') l2) (sym (group-some is s (bookIn h t) some)) all
