@@ -11,29 +11,33 @@ use lib.ListN.{length, length-map}
 use borrow.Author.Tests.{eq-eqb, ne-eqb, not-true, not-false}
 use Rattle.sets.specs.Sets.{single}
 use Rattle.rows.specs.Number.{stored, joined}
-use Rattle.rules.specs.Layer.{Layer, token, vertexFor}
+use Rattle.rules.specs.Layer.{Layer, token, vertexFor, withVertex}
 use Rattle.rules.specs.Book.{Book, Resource, none, resource, withResources, withLock}
 use Rattle.rules.specs.Book as book
 use Rattle.rules.specs.Lists.{first}
 use Rattle.rules.specs.Bytes.{Tables, tables, bookIn, setsIn, resourcesIn}
-use Rattle.rules.specs.Requests.{Done, done, order, _then_, outerVertex, relock}
+use Rattle.rules.specs.Requests.{Done, done, order, _then_, outerVertex, relock, vertexOrders}
 use Rattle.rules.specs.Calls.{orderRow, orderRows}
 use Rattle.rules.specs.declared.Head.{Head}
 use Rattle.rules.specs.declared.Order.{Order}
 use Rattle.theorems.specs.Plan.{relockAll, lockGroup}
-use Rattle.layer.specs.Laid.{isSet, foundIn}
+use Rattle.layer.specs.Laid.{isSet, foundIn, layerOf}
 use Rattle.layer.specs.Cover.{orderOf}
-use Rattle.layer.specs.Make.{setsOnly, VertexFor}
+use Rattle.layer.specs.Make.{setsOnly, Fits, VertexFor}
 use Rattle.layer.specs.declared.walk.Shape.{Shape}
 use Rattle.layer.specs.declared.make.Made.{Made}
 use Rattle.layer.specs.declared.table.Found.{Found}
 use Rattle.layer.specs.declared.table.Found.the-variants.{At, Nothing}
+use Rattle.rows.proofs.Laws.{length-stored}
+use Rattle.theorems.proofs.CountLaws.{newVertices-one, withVertex-vertices}
+use Rattle.theorems.proofs.ServeLaws.{length-orders}
+use Rattle.layer.proofs.Read.{layer-sets}
 use Rattle.layer.proofs.Steps.{found-at, not-found}
 use Rattle.policy.specs.Write.{Resources, locked, waitersIn, relocked, relockRows, TokenAdded}
 use Rattle.policy.specs.Judge.{outerShape}
 use Rattle.policy.specs.Step.{withOuter}
 use Rattle.policy.specs.Apply.{Works, lockWith}
-use Rattle.policy.specs.Grant.{letInBy, LetInRoom, waitingIn, unlockBy, settleBy}
+use Rattle.policy.specs.Grant.{letInBy, LetInRoom, waitingIn, GroupRoom, unlockBy, settleBy}
 use Rattle.policy.specs.declared.plan.Plan.{Plan}
 use Rattle.policy.specs.declared.step.Step.{Step}
 use Rattle.policy.proofs.WorksLaws.{step, past-none, works-none, works-next, works-rows, works-relock, works-outer, outer-in}
@@ -118,23 +122,56 @@ unfolding lockGroup
 group-some [] s b n = absurd (n refl)
 group-some (i ∷ is) s b n = refl
 
+module _ {h : Head} {ov ot rs list is : List ℕ} {s at : ℕ} (room : GroupRoom h ov ot rs list is s at) (some : is ≢ []) {l : Shape} (shape : l ≡ outerShape h) where
+  pub vertex-room : Fits l ot ov s list at
+  vertex-room = rw shape (room .fits some)
+
+  -- once the vertex is there, room for the re-locks of the members js
+  module _ {m : Made} {ot' ov' l1 : List ℕ} (p : VertexFor l s at 1 2 ot ov list m ot' ov' l1) where
+    pub relocks-room : {js : List ℕ} → is ≡ js → (m .at + length js) * 3 ≤ length list
+    relocks-room {js} e =
+        omega (
+          arith,
+          room .orders some,
+          p .next,
+          ap (λ (x : Shape). length (vertexOrders 1 2 (layerOf x ot ov) s)) shape,
+          ap length e,
+        )
+
+    pub told-long : length l1 ≡ length list
+    told-long =
+        let n = length-orders (vertexOrders 1 2 (layerOf l ot ov) s) in
+        ap length (p .orders) ∙ length-stored (at * 3) (orderRows (vertexOrders 1 2 (layerOf l ot ov) s)) list (omega (arith, relocks-room refl, n, p .next))
+
+    -- the counts stay 16-bit numbers
+    pub counts-room : (m .shape .vertices < 65536) × (m .shape .tokens < 65536)
+    counts-room = (
+      omega (
+        arith,
+        p .vertices,
+        withVertex-vertices (layerOf l ot ov) s,
+        newVertices-one (layerOf l ot ov) s,
+        layer-sets l ot ov,
+        vertex-room .vertices<,
+      ),
+      omega (arith, p .tokens, room .tokens< some, ap (λ (x : Shape). length (withVertex (layerOf x ot ov) s .tokens)) shape),
+    )
+
 module _ {h : Head} {iv it ov ot rs list : List ℕ} {at : ℕ} (s : ℕ) {is : List ℕ} where
   pub group-none : is ≡ [] → Works (lockGroup is s (bookIn h (tables iv it ov ot rs))) h (tables iv it ov ot rs) list at (step h at) (tables iv it ov ot rs) list
   unfolding lockGroup
   group-none e = rw e works-none
 
   -- the vertex, then a re-lock each; `l`, `k` and `next` as the code has them
-  pub works-group : {k : Head} {ov' ot' rs' l1 l2 : List ℕ} {next : ℕ} {l : Shape} {m : Made} → is ≢ [] → next * 3 ≤ length list
-      → l ≡ outerShape h → VertexFor l s at 1 2 ot ov list m ot' ov' l1
-      → Resources (h .resources .0) (relocked is (m .vertex) (resourcesIn (h .resources .0) rs)) rs rs' → l2 ≡ stored (m .at * 3) (relockRows is (m .vertex)) l1
-      → next ≡ m .at + length is → k ≡ withOuter h (m .shape)
+  pub works-group : {k : Head} {ov' ot' rs' l1 l2 js : List ℕ} {next : ℕ} {l : Shape} {m : Made} → is ≢ [] → (e : is ≡ js)
+      → (m .at + length js) * 3 ≤ length list → l ≡ outerShape h → VertexFor l s at 1 2 ot ov list m ot' ov' l1
+      → Resources (h .resources .0) (relocked js (m .vertex) (resourcesIn (h .resources .0) rs)) rs rs'
+      → l2 ≡ stored (m .at * 3) (relockRows js (m .vertex)) l1 → next ≡ m .at + length js → k ≡ withOuter h (m .shape)
       → Works (lockGroup is s (bookIn h (tables iv it ov ot rs))) h (tables iv it ov ot rs) list at (step k next) (tables iv it ov' ot' rs') l2
-  works-group {k} {ov'} {ot'} {rs'} {l1} {l2} {next} {l} {m} some room shape p q o count e =
+  works-group {k} {ov'} {ot'} {rs'} {l1} {l2} {js} {next} {l} {m} some same room shape p q o count e =
       let p' : VertexFor (outerShape h) s at 1 2 ot ov list m ot' ov' l1 = subst (λ (x : Shape). VertexFor x s at 1 2 ot ov list m ot' ov' l1) shape p in
       let t = tables iv it ov ot rs in
       let v : m .vertex ≡ vertexFor (bookIn h t .outer) s = p' .vertex ∙ ap (λ (L : Layer). vertexFor L s) (sym (outer-in h t)) in
       let one = works-outer h iv it ov ot rs ov' ot' list l1 at s m p' in
-      let two = works-relocks (withOuter h (m .shape)) iv it ov' ot' rs rs' l1 l2 (m .at) is (m .vertex) q o count in
-      let all : Works (outerVertex s (bookIn h t) then relockAll is (vertexFor (bookIn h t .outer) s)) h t list at (step k next) (tables iv it ov' ot' rs') l2
-      = rw (e, ← v) (works-next (relockAll is (m .vertex)) room one two) in
-      subst (λ (d : Done). Works d h t list at (step k next) (tables iv it ov' ot' rs') l2) (sym (group-some is s (bookIn h t) some)) all
+      let two = works-relocks (withOuter h (m .shape)) iv it ov' ot' rs rs' l1 l2 (m .at) js (m .vertex) q o count in
+      rw (group-some is s (bookIn h t) some, same, e, ← v) (works-next (relockAll js (m .vertex)) (omega (arith, count)) one two)
