@@ -19,6 +19,7 @@ use Rattle.rules.specs.Bytes.{Tables, tables, bookIn, setsIn, resourcesIn}
 use Rattle.rules.specs.Requests.{Done, done, order, _then_, outerVertex, relock, vertexOrders}
 use Rattle.rules.specs.Calls.{orderRow, orderRows}
 use Rattle.rules.specs.declared.Head.{Head}
+use Rattle.rules.specs.declared.Token.{Token}
 use Rattle.rules.specs.declared.Order.{Order}
 use Rattle.theorems.specs.Plan.{relockAll, lockGroup}
 use Rattle.layer.specs.Laid.{isSet, foundIn, layerOf}
@@ -35,7 +36,7 @@ use Rattle.layer.proofs.Read.{layer-sets}
 use Rattle.layer.proofs.Steps.{found-at, not-found}
 use Rattle.policy.specs.Write.{Resources, locked, waitersIn, relocked, relockRows, TokenAdded}
 use Rattle.policy.specs.Judge.{outerShape}
-use Rattle.policy.specs.Step.{withOuter}
+use Rattle.policy.specs.Step.{withInner, withOuter}
 use Rattle.policy.specs.Apply.{Works, lockWith}
 use Rattle.policy.specs.Grant.{letInBy, LetInRoom, waitingIn, GroupRoom, unlockBy, settleBy}
 use Rattle.policy.specs.declared.plan.Plan.{Plan}
@@ -63,6 +64,53 @@ module _ (b : Book) {h : Head} {t u : Tables} {list l' : List ℕ} {at : ℕ} (r
   pub settle-lock : free ≡ false → Works (lockWith r l b) h t list at s u l' → Works (settleBy free r v l b) h t list at s u l'
   unfolding settleBy
   settle-lock e w = rw e w
+
+-- ---- the token
+
+-- the head with a token more
+abbrev pub moreTokens : Head → Head
+moreTokens h = withInner h (record { width = 5; tokens = h .«inner_tokens» .0 + 1; vertices = h .«inner_vertices» .0 })
+
+module _ {h : Head} {iv it ov ot rs list : List ℕ} (u v : ℕ) (add : Bool) where
+  pub let-in-none : not add ≡ true
+      → Works (letInBy add u v (bookIn h (tables iv it ov ot rs))) h (tables iv it ov ot rs) list 0 (step h 0) (tables iv it ov ot rs) list
+  unfolding letInBy
+  let-in-none e = rw (not-true add e) works-none
+
+  pub works-let-in : {it' l' : List ℕ} {o : ℕ} → not add ≡ false → vertexFor (setsOnly (h .«inner_vertices» .0) iv) (single u) ≡ o
+      → TokenAdded (h .«inner_tokens» .0) o v it it' → l' ≡ stored 0 (orderOf 6 o v) list
+      → Works (letInBy add u v (bookIn h (tables iv it ov ot rs))) h (tables iv it ov ot rs) list 0 (step (moreTokens h) 1) (tables iv it' ov ot rs) l'
+  unfolding letInBy done bookIn book.withInner vertexFor orderRows orderRow joined
+  works-let-in {it'} {l'} {o} e own p told =
+      rw (not-false add e, own) (record {
+        book = ap (λ (ts : List Token). book.withInner (bookIn h (tables iv it ov ot rs)) (record { sets = setsIn (h .«inner_vertices» .0) iv; tokens = ts })) (p .rows);
+        grown = record { innerVertices = omega arith; innerTokens = omega arith; outerVertices = omega arith; outerTokens = omega arith; resources = omega arith };
+        past =
+            record {
+              innerVertices = past-none;
+              innerTokens = record { rest = p .rest; same = p .same };
+              outerVertices = past-none;
+              outerTokens = past-none;
+              resources = past-none;
+            };
+        orders = told;
+        next = refl;
+      })
+
+-- the search for u's own vertex
+module _ {h : Head} {iv it list : List ℕ} {u : ℕ} {add : Bool} (room : LetInRoom h iv it list u add) {s : ℕ} (only : s ≡ single u) {f : Found}
+    (is : f ≡ foundIn (h .«inner_vertices» .0) (first (isSet s) (setsIn (h .«inner_vertices» .0) iv))) where
+  pub own-at : {o : ℕ} → f ≡ At o → (o < 65536) × (vertexFor (setsOnly (h .«inner_vertices» .0) iv) (single u) ≡ o)
+  unfolding vertexFor
+  own-at {o} a =
+      let here : (o < h .«inner_vertices» .0) × (first (isSet s) (setsIn (h .«inner_vertices» .0) iv) ≡ o) = found-at a is in
+      (omega (arith, room .few), rw only at (here .1))
+
+  pub own-found : f ≡ Nothing → ⊥
+  unfolding vertexFor
+  own-found a =
+      let past : h .«inner_vertices» .0 ≤ first (isSet s) (setsIn (h .«inner_vertices» .0) iv) = not-found a is in
+      omega (arith, room .own, ap (λ (x : ℕ). first (isSet x) (setsIn (h .«inner_vertices» .0) iv)) only)
 
 -- ---- the neighbours
 

@@ -30,9 +30,10 @@ relock-waiting-requires c κs = let made = c .before .before .before .before .be
     let start = some .before .before .before .before .before .before .before .before in
     let any = some-left (some .before .waiting .ensures) (some .if1 .left) in
     let shape = made .before .before .outer-shape .ensures in
-    let e = some-wait _ _ _ _ _ any in
-    ((start .pre .rows, omega (arith, start .good)),
-    omega (arith, relocks-room (start .pre) any shape (made .vertex-for .ensures) e, told-long (start .pre) any shape (made .vertex-for .ensures)))
+    let e = some-wait _ _ _ _ _ any in (
+      (start .pre .rows, omega (arith, start .good)),
+      omega (arith, relocks-room (start .pre) any shape (made .vertex-for .ensures) e, told-long (start .pre) any shape (made .vertex-for .ensures)),
+    )
 
 with-outer-requires : tie.Need-with-outer-requires
 with-outer-requires c κs = let made = c .before .before .before .before .before .before .before .before .before .before .before .before .before .before in
