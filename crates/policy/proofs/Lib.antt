@@ -1,3 +1,5 @@
 pub mod WriteLaws
 pub mod WaitLaws
 pub mod WorksLaws
+pub mod ReadyLaws
+pub mod ApplyLaws
