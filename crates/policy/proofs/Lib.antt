@@ -3,3 +3,4 @@ pub mod WaitLaws
 pub mod WorksLaws
 pub mod ReadyLaws
 pub mod ApplyLaws
+pub mod GrantWorks
