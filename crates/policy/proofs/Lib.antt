@@ -4,3 +4,4 @@ pub mod WorksLaws
 pub mod ReadyLaws
 pub mod ApplyLaws
 pub mod GrantWorks
+pub mod GrantLaws

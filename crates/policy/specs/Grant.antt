@@ -73,5 +73,5 @@ pub record UnlockRoom (h : Head) (rs list : List ℕ) (r v at : ℕ) : Type 0 wh
   pub orders : v ≢ none → (at + 1) * 3 ≤ length list
 
 pub record SettleRoom (h : Head) (ov ot rs list : List ℕ) (r v l at : ℕ) (free : Bool) : Type 0 where
-  pub unlocks : UnlockRoom h rs list r v at
+  pub unlocks : free ≡ true → UnlockRoom h rs list r v at
   pub locks : free ≡ false → LockRoom h ov ot rs list r l at

@@ -5,7 +5,9 @@ use Rattle.policy.proofs.grant.settle.Statement.{statement}
 use Rattle.policy.proofs.grant.settle.Tie as tie
 
 unlock-requires : tie.Need-unlock-requires
-unlock-requires c κs = search needs
+unlock-requires c κs =
+    let s = c .before .before in
+    s .before .before .before .before .before .pre .unlocks (s .if1 .taken)
 
 same-length : tie.Need-same-length
 same-length c = search needs
