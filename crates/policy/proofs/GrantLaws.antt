@@ -8,7 +8,7 @@ use mathlib.Core.List.{List, [], _∷_, _++_, map}
 use native.Mathlib.Decide.{ℕ-discrete}
 use native.Mathlib.Omega.{arith}
 use lib.Dec.{eqb}
-use lib.ListN.{length, length-append, length-map}
+use lib.ListN.{length, length-append, length-map, length-set}
 use borrow.Author.Tests.{eqb-true, eqb-false, eq-eqb, ne-eqb}
 use Rattle.sets.specs.Sets.{has, single, union}
 use Rattle.rules.specs.Lists.{keep, upTo}
@@ -16,11 +16,13 @@ use Rattle.rules.specs.Layer.{Layer, token, vertexFor, withVertex}
 use Rattle.rules.specs.Book.{Book, Resource, resource, hasOuter, withInner, withResources, withList, withLock, withOuter}
 use Rattle.rules.specs.Holders.{holders, holdersOf}
 use Rattle.rules.specs.Sound.{sound}
-use Rattle.rules.specs.Requests.{Done, done, order, _then_, outerVertex, vertexOrders, letIn, grant}
-use Rattle.theorems.specs.Plan.{grantedList, waits, waiters, lockGroup, agreed, settleRow}
+use Rattle.rules.specs.Requests.{Done, done, order, _then_, outerVertex, relock, vertexOrders, letIn, grant}
+use Rattle.theorems.specs.Plan.{newVertices, newTokens, grantedList, waits, waiters, ifAny, relockAll, lockGroup, agreed, settleRow}
+use Rattle.theorems.proofs.SoundLaws.{Counts, sound-counts}
+use Rattle.theorems.proofs.CountLaws.{newVertices-one, withVertex-vertices, withVertex-tokens}
 use Rattle.theorems.proofs.NeighbourLaws.{Started, grant-starts, none-waits, none-waits-full}
-use Rattle.theorems.proofs.GroupLaws.{group-orders, group-outer, locked-book}
-use Rattle.theorems.proofs.PlanLaws.{row-listed, grant-plan, grant-outer}
+use Rattle.theorems.proofs.GroupLaws.{group-orders, group-outer, locked-book, waiters-fewer}
+use Rattle.theorems.proofs.PlanLaws.{row-listed, grant-plan, grant-outer, grant-orders, grant-tokens}
 use Rattle.policy.specs.Write.{waitsIn, waitersIn}
 use Rattle.policy.specs.Grant.{letInBy}
 
@@ -90,33 +92,102 @@ group-grows (i ∷ is) s b n = (
       ∙ ap (λ (n : ℕ). length (vertexOrders 1 2 (b .outer) s) + n) (length-map (i ∷ is) (λ j. order 3 j (vertexFor (b .outer) s))),
 )
 
+-- the book with the new list, with the token, with the neighbours locked, and with r settled
+abbrev pub listed : ℕ → ℕ → Book → Done
+listed r u b = done (withList b r (grantedList r u b)) []
+
+abbrev pub entered : ℕ → ℕ → Book → Done
+entered r u b = listed r u b then letIn r u
+
+abbrev pub guarded : ℕ → ℕ → Book → Done
+guarded r u b = entered r u b then lockGroup (waiters b r u) (holdersOf b r)
+
+abbrev pub settled : ℕ → ℕ → Book → Done
+settled r u b = guarded r u b then settleRow r u b
+
+relocked-count : (is : List ℕ) (v : ℕ) (b : Book) → length (relockAll is v b .book .resources) ≡ length (b .resources)
+unfolding relockAll relock done _then_ withLock withResources
+relocked-count [] v b = refl
+relocked-count (i ∷ is) v b = relocked-count is v (relock i v b .book) ∙ simp length-set
+
+group-rows : (is : List ℕ) (s : ℕ) (b : Book) → length (lockGroup is s b .book .resources) ≡ length (b .resources)
+unfolding lockGroup done _then_ outerVertex withOuter
+group-rows [] s b = refl
+group-rows (i ∷ is) s b = relocked-count (i ∷ is) (vertexFor (b .outer) s) (outerVertex s b .book)
+
 module _ (b : Book) (h : sound b ≡ true) (r u : ℕ) (l : r < length (b .resources)) (un : u < b .users) (out : has (resource b r .list) u ≡ false) where
-  -- the book with the new list, with the token, with the neighbours locked, and r settled
-  abbrev pub listed : Done
-  listed = done (withList b r (grantedList r u b)) []
-
-  abbrev pub entered : Done
-  entered = listed then letIn r u
-
-  abbrev pub guarded : Done
-  guarded = entered then lockGroup (waiters b r u) (holdersOf b r)
-
-  abbrev pub settled : Done
-  settled = guarded then settleRow r u b
-
-  pub pieces : grant r u b ≡ settled
+  pub pieces : grant r u b ≡ settled r u b
   pieces = grant-plan b h r u l un out
 
-  started : Started b (entered .book) r u
+  pub started : Started b (entered r u b .book) r u
   unfolding _then_ done
   started = grant-starts b h r u l un
 
-  entered-outer : entered .book .outer ≡ b .outer
-  entered-outer = started .outer
+  -- the rows of resources stay as many
+  pub guarded-count : length (guarded r u b .book .resources) ≡ length (b .resources)
+  unfolding _then_
+  guarded-count = group-rows (waiters b r u) (holdersOf b r) (entered r u b .book) ∙ started .count
 
-  settled-outer : settled .book .outer ≡ cond (agreed r u b) (guarded .book .outer) (withVertex (guarded .book .outer) (grantedList r u b))
+  pub settled-outer : settled r u b .book .outer
+      ≡ cond (agreed r u b) (guarded r u b .book .outer) (withVertex (guarded r u b .book .outer) (grantedList r u b))
   unfolding _then_ done
   settled-outer =
       ap (λ (d : Done). d .book .outer) (sym pieces)
       ∙ grant-outer b h r u l un out
       ∙ ap (λ (e : Book). cond (agreed r u b) (e .outer) (withVertex (e .outer) (grantedList r u b))) (locked-book b h r u l un)
+
+  -- what the neighbours' vertex adds is there at the end
+  pub guarded-few : (length (guarded r u b .book .outer .sets) ≤ length (settled r u b .book .outer .sets))
+      × (length (guarded r u b .book .outer .tokens) ≤ length (settled r u b .book .outer .tokens))
+  guarded-few = go (agreed r u b) settled-outer
+    where
+      g : Layer
+      g = guarded r u b .book .outer
+
+      go : (z : Bool) → settled r u b .book .outer ≡ cond z g (withVertex g (grantedList r u b))
+          → (length (g .sets) ≤ length (settled r u b .book .outer .sets)) × (length (g .tokens) ≤ length (settled r u b .book .outer .tokens))
+      go true e = (omega (arith, ap (λ (L : Layer). length (L .sets)) e), omega (arith, ap (λ (L : Layer). length (L .tokens)) e))
+      go false e = (
+        omega (arith, ap (λ (L : Layer). length (L .sets)) e, withVertex-vertices g (grantedList r u b)),
+        omega (arith, ap (λ (L : Layer). length (L .tokens)) e, withVertex-tokens g (grantedList r u b)),
+      )
+
+  -- a group's vertex and orders
+  pub guarded-grows : waiters b r u ≢ []
+      → (guarded r u b .book .outer ≡ withVertex (entered r u b .book .outer) (holdersOf b r))
+      × (length (guarded r u b .orders)
+      ≡ length (entered r u b .orders) + (length (vertexOrders 1 2 (entered r u b .book .outer) (holdersOf b r)) + length (waiters b r u)))
+  unfolding _then_
+  guarded-grows some =
+      let (e, n) = group-grows (waiters b r u) (holdersOf b r) (entered r u b .book) some in
+      (e, length-append (entered r u b .orders) (lockGroup (waiters b r u) (holdersOf b r) (entered r u b .book) .orders) ∙ ap (λ (x : ℕ). length (entered r u b .orders) + x) n)
+
+  -- the orders are fewer than 65536, which the answer's count can hold
+  pub settled-orders : Counts (settled r u b .book) → length (settled r u b .orders) < 65536
+  settled-orders c =
+      omega (
+        arith,
+        ap (λ (d : Done). length (d .orders)) (sym pieces) ∙ grant-orders b h r u l un out,
+        ap (λ (d : Done). length (d .book .outer .tokens)) (sym pieces) ∙ grant-tokens b h r u l un out,
+        c .outerTokens≤,
+        one-or-none (has (holdersOf b r) u),
+        any-few (waiters b r u) (newVertices (b .outer) (holdersOf b r)) (newTokens (b .outer) (holdersOf b r)) (length (waiters b r u)),
+        own-few (agreed r u b) (hasOuter (resource b r)) (newVertices (b .outer) (grantedList r u b)) (newTokens (b .outer) (grantedList r u b)),
+        newVertices-one (b .outer) (holdersOf b r),
+        newVertices-one (b .outer) (grantedList r u b),
+        waiters-fewer b r u l,
+        sound-counts b h .resources≤,
+      )
+    where
+      one-or-none : (z : Bool) → cond z 0 1 ≤ 1
+      one-or-none true = omega arith
+      one-or-none false = omega arith
+
+      any-few : (is : List ℕ) (m n k : ℕ) → ifAny is (m + n + k) ≤ m + ifAny is n + k
+      any-few [] m n k = omega arith
+      any-few (i ∷ is) m n k = omega arith
+
+      own-few : (z w : Bool) (m n : ℕ) → cond z (cond w 1 0) (m + n + 1) ≤ 1 + m + cond z 0 n
+      own-few true true m n = omega arith
+      own-few true false m n = omega arith
+      own-few false w m n = omega arith
