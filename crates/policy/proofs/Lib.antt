@@ -5,3 +5,4 @@ pub mod ReadyLaws
 pub mod ApplyLaws
 pub mod GrantWorks
 pub mod GrantLaws
+pub mod GrantSteps

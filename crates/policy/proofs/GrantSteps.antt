@@ -1,0 +1,182 @@
+-- A grant on the tables, step by step: the room that each step has, and that the last leaves what the call's definition says.
+-- Assumes nothing.
+use Prim.Native.Nat.{ℕ, _+_, _*_, _≤_, _<_}
+use mathlib.Core.Path.{_≡_, refl, sym, ap, ap₂, _∙_, subst}
+use mathlib.Core.Bool.{Bool, true, false, _&&_, not, cond}
+use mathlib.Core.Logic.{_≢_}
+use mathlib.Core.List.{List, [], _∷_}
+use native.Mathlib.Omega.{arith}
+use lib.Dec.{eqb}
+use lib.ListN.{length}
+use borrow.Author.Tests.{not-true, eq-eqb, ne-eqb}
+use Rattle.sets.specs.Sets.{has, single, union}
+use Rattle.rows.specs.Number.{stored}
+use Rattle.rows.proofs.Laws.{length-stored}
+use Rattle.rules.specs.Layer.{Layer, vertexFor, withVertex}
+use Rattle.rules.specs.Book.{Book, Resource, none, resource, hasOuter, withList}
+use Rattle.rules.specs.Holders.{holdersOf}
+use Rattle.rules.specs.Requests.{Done, done, _then_, relock, vertexOrders, letIn, grant}
+use Rattle.rules.specs.Refusals.{grants, work}
+use Rattle.rules.specs.Bytes.{Tables, tables, bookIn, resourcesIn}
+use Rattle.rules.specs.Calls.{change, orderRows}
+use Rattle.rules.specs.declared.Head.{Head}
+use Rattle.theorems.specs.Plan.{grantedList, waiters, lockGroup, agreed, settleRow}
+use Rattle.theorems.proofs.LetInLaws.{own-there}
+use Rattle.theorems.proofs.SoundLaws.{Counts, sound-kept}
+use Rattle.theorems.proofs.ByteLaws.{TableBytes}
+use Rattle.theorems.proofs.RequestLaws.{Allowed}
+use Rattle.theorems.proofs.ServeLaws.{length-orders}
+use Rattle.theorems.proofs.PlanLaws.{grant-orders, grant-inner-tokens}
+use Rattle.layer.specs.Laid.{layerOf}
+use Rattle.policy.specs.Write.{Resources, row, waitersIn}
+use Rattle.policy.specs.Write as rows
+use Rattle.policy.specs.Judge.{planOf, outerShape}
+use Rattle.policy.specs.Apply.{Works, lockWith, LockRoom, Accepted, applied}
+use Rattle.policy.specs.Grant.{letInBy, LetInRoom, waitingIn, GroupRoom, unlockBy, settleBy, UnlockRoom, SettleRoom}
+use Rattle.policy.specs.declared.plan.Plan.{Plan}
+use Rattle.policy.specs.declared.step.Step.{Step}
+use Rattle.policy.specs.declared.apply.Applied.{Applied}
+use Rattle.policy.proofs.ReadyLaws.{resources-count, users-count, inner-count, inner-tokens-count, row-read}
+use Rattle.policy.proofs.WorksLaws.{step, works-list, works-then, works-change, outer-in, lock-orders}
+use Rattle.policy.proofs.ApplyLaws.{Known, known, lock-allowed}
+use Rattle.policy.proofs.GrantWorks.{some-left}
+use Rattle.policy.proofs.GrantLaws.{then-orders, let-in-is, waiters-are, listed, entered, guarded, settled, pieces, started, guarded-count, settled-outer, guarded-few, guarded-grows, settled-orders}
+
+-- ---- a piece of work that the code names in its own terms
+
+pub works-on : {d e : Done} (f : Book → Done) {h : Head} {t u w : Tables} {list l1 l2 : List ℕ} {at : ℕ} {s z : Step} → (at + length ((d then f) .orders)) * 3 ≤ length list
+    → Works d h t list at s u l1 → e ≡ f (d .book) → Works e (s .head) u l1 (s .at) z w l2 → Works (d then f) h t list at z w l2
+works-on {d} {e} f {h} {t} {u} {w} {list} {l1} {l2} {at} {s} {z} room p same q =
+    works-then f (omega (arith, p .next, q .next, ap (λ (x : Done). length (x .orders)) same, then-orders d f)) p
+    (subst (λ (x : Done). Works x (s .head) u l1 (s .at) z w l2) same q)
+
+pub works-long : {d : Done} {h : Head} {t u : Tables} {list l' : List ℕ} {at : ℕ} {s : Step} → (at + length (d .orders)) * 3 ≤ length list
+    → Works d h t list at s u l' → length l' ≡ length list
+works-long {d} {h} {t} {u} {list} {l'} {at} {s} room w =
+    ap length (w .orders) ∙ length-stored (at * 3) (orderRows (d .orders)) list (omega (arith, length-orders (d .orders)))
+
+-- ---- what is known before anything is written
+
+module _ (h : Head) (iv it ov ot rs list : List ℕ) (r u : ℕ) (ok : Accepted (grants r u) h (tables iv it ov ot rs) list) where
+  abbrev t : Tables
+  t = tables iv it ov ot rs
+
+  abbrev b : Book
+  b = bookIn h t
+
+  k : Known (grants r u) h t list
+  k = known (grants r u) h t list ok
+
+  allowed : (u < b .users) × (r < length (b .resources)) × (has (resource b r .list) u ≡ false)
+  unfolding Allowed
+  allowed = k .allowed
+
+  pub grant-there : (r < h .resources .0) × (h .resources .0 * 12 ≤ length rs) × (u < 64)
+  grant-there =
+      let (ul, rl, out) = allowed in (
+        omega (arith, resources-count h iv it ov ot rs),
+        k .sizes′ .room .resources,
+        omega (arith, users-count h iv it ov ot rs, k .sizes′ .users≤),
+      )
+
+  -- the rules' work, by pieces
+  by-pieces : grant r u b ≡ settled r u b
+  by-pieces = let (ul, rl, out) = allowed in pieces b (k .sound′) r u rl ul out
+
+  work-is : work (grants r u) b ≡ settled r u b
+  unfolding work
+  work-is = by-pieces
+
+  after : Counts (settled r u b .book)
+  after = subst (λ (d : Done). Counts (d .book)) work-is (k .after)
+
+  told : length (settled r u b .orders) * 3 ≤ length list
+  told = subst (λ (d : Done). length (d .orders) * 3 ≤ length list) work-is (k .orders)
+
+  -- the orders of the pieces, each after the other
+  counted : (length (entered r u b .orders) ≤ length (guarded r u b .orders))
+      × (length (settled r u b .orders) ≡ length (guarded r u b .orders) + length (settleRow r u b (guarded r u b .book) .orders))
+  counted = (
+    omega (arith, then-orders (entered r u b) (lockGroup (waiters b r u) (holdersOf b r))),
+    then-orders (guarded r u b) (settleRow r u b),
+  )
+
+  module _ {p : Plan} (plan : p ≡ planOf (grants r u) b) where
+    free-is : p .free ≡ agreed r u b
+    unfolding planOf
+    free-is = ap (λ (q : Plan). q .free) plan
+
+    token-is : p .token ≡ not (has (holdersOf b r) u)
+    unfolding planOf
+    token-is = ap (λ (q : Plan). q .token) plan
+
+    holders-are : p .holders .0 ≡ holdersOf b r
+    unfolding planOf
+    holders-are = ap (λ (q : Plan). q .holders .0) plan
+
+    -- where a token is added: one inner token and one order
+    adds : p .token ≡ true → (h .«inner_tokens» .0 + 1 ≤ 4096) × (3 ≤ length list)
+    adds e =
+        let (ul, rl, out) = allowed in
+        let no : has (holdersOf b r) u ≡ false = not-true (has (holdersOf b r) u) (sym token-is ∙ e) in (
+          omega (
+            arith,
+            rw no at (grant-inner-tokens b (k .sound′) r u rl ul),
+            inner-tokens-count h iv it ov ot rs,
+            ap (λ (d : Done). length (d .book .inner .tokens)) by-pieces,
+            after .innerTokens≤,
+          ),
+          omega (arith, rw no at (grant-orders b (k .sound′) r u rl ul out), told, ap (λ (d : Done). length (d .orders)) by-pieces),
+        )
+
+    pub grant-let-in : LetInRoom h iv it list u (p .token)
+    unfolding vertexFor bookIn
+    grant-let-in =
+        let (ul, rl, out) = allowed in
+        let (there, rows, user) = grant-there in
+        record {
+          user = user;
+          sets = k .sizes′ .room .innerVertices;
+          few = omega (arith, k .sizes′ .inner≤);
+          own = omega (arith, own-there (b .users) (b .inner) (sound-kept b (k .sound′) .inner) u ul .0, inner-count h iv it ov ot rs);
+          rows = λ e. omega (arith, adds e .0, k .long .innerTokens);
+          tokens< = omega (arith, k .sizes′ .innerTokens≤);
+          orders = λ e. adds e .1;
+        }
+
+    -- ---- the list, as the code has it: x is the row of r, and l its list with u
+
+    module _ {x : Resource} {l : ℕ} {rs1 : List ℕ} (read : x ≡ row (resourcesIn (h .resources .0) rs) r) (new : l ≡ union (x .list) (single u))
+        (put : Resources (h .resources .0) (rows.listed r l (resourcesIn (h .resources .0) rs)) rs rs1) where
+      x-is : x ≡ resource b r
+      x-is = row-read h iv it ov ot rs r read
+
+      list-is : l ≡ grantedList r u b
+      list-is = new ∙ ap (λ (y : Resource). union (y .list) (single u)) x-is
+
+      works-listed : Works (listed r u b) h t list 0 (step h 0) (tables iv it ov ot rs1) list
+      works-listed = rw (← list-is) (works-list h iv it ov ot rs rs1 list 0 r l put)
+
+      -- ---- the token
+
+      module _ {sa : Step} {it2 l2 : List ℕ}
+          (first : Works (letInBy (p .token) u (x .inner) (bookIn h (tables iv it ov ot rs1))) h (tables iv it ov ot rs1) list 0 sa (tables iv it2 ov ot rs1) l2) where
+        let-in-same : letInBy (p .token) u (x .inner) (bookIn h (tables iv it ov ot rs1)) ≡ letIn r u (listed r u b .book)
+        unfolding done
+        let-in-same =
+            let (ul, rl, out) = allowed in
+            (λ i. letInBy (token-is i) u (x-is i .inner) (works-listed .book i)) ∙ let-in-is b r u (grantedList r u b) rl
+
+        works-entered : Works (entered r u b) h t list 0 sa (tables iv it2 ov ot rs1) l2
+        works-entered = works-on (letIn r u) (omega (arith, told, counted)) works-listed let-in-same first
+
+        abbrev t2 : Tables
+        t2 = tables iv it2 ov ot rs1
+
+        -- those that wait are those of the plan
+        waiting-are : waitingIn (sa .head) rs1 r (x .inner) p ≡ waiters b r u
+        unfolding waitingIn bookIn
+        waiting-are =
+            let (ul, rl, out) = allowed in
+            (λ i. cond (eqb (works-entered .book i .mode) 1 && token-is i) (waitersIn (works-entered .book i .resources) r (x-is i .inner) (holders-are i)) [])
+            ∙ waiters-are b (entered r u b .book) r u (started b (k .sound′) r u rl ul out)
