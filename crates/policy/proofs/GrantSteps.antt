@@ -55,6 +55,19 @@ pub works-long : {d : Done} {h : Head} {t u : Tables} {list l' : List ℕ} {at :
 works-long {d} {h} {t} {u} {list} {l'} {at} {s} room w =
     ap length (w .orders) ∙ length-stored (at * 3) (orderRows (d .orders)) list (omega (arith, length-orders (d .orders)))
 
+some-one : (xs : List ℕ) → xs ≢ [] → 1 ≤ length xs
+some-one [] n = absurd (n refl)
+some-one (x ∷ xs) n = omega arith
+
+-- the outer layer and the rows of resources in the tables after a piece of work
+module _ {d : Done} {h : Head} {iv it ov ot rs iv' it' ov' ot' rs' list l' : List ℕ} {at : ℕ} {s : Step}
+    (w : Works d h (tables iv it ov ot rs) list at s (tables iv' it' ov' ot' rs') l') where
+  pub works-outer-is : layerOf (outerShape (s .head)) ot' ov' ≡ d .book .outer
+  works-outer-is = sym (outer-in (s .head) (tables iv' it' ov' ot' rs')) ∙ ap (λ (b : Book). b .outer) (w .book)
+
+  pub works-count : s .head .resources .0 ≡ length (d .book .resources)
+  works-count = sym (resources-count (s .head) iv' it' ov' ot' rs') ∙ ap (λ (b : Book). length (b .resources)) (w .book)
+
 -- ---- what is known before anything is written
 
 module _ (h : Head) (iv it ov ot rs list : List ℕ) (r u : ℕ) (ok : Accepted (grants r u) h (tables iv it ov ot rs) list) where
@@ -180,3 +193,48 @@ module _ (h : Head) (iv it ov ot rs list : List ℕ) (r u : ℕ) (ok : Accepted 
             let (ul, rl, out) = allowed in
             (λ i. cond (eqb (works-entered .book i .mode) 1 && token-is i) (waitersIn (works-entered .book i .resources) r (x-is i .inner) (holders-are i)) [])
             ∙ waiters-are b (entered r u b .book) r u (started b (k .sound′) r u rl ul out)
+
+        pub grant-group : GroupRoom (sa .head) ov ot rs1 l2 (waitingIn (sa .head) rs1 r (x .inner) p) (p .holders .0) (sa .at)
+        grant-group = record { rows = rows; fits = λ n. room n .0 .fits; orders = λ n. room n .1; tokens< = λ n. room n .0 .tokens< }
+          where
+            is : List ℕ
+            is = waitingIn (sa .head) rs1 r (x .inner) p
+
+            long : length l2 ≡ length list
+            long = works-long (omega (arith, told, counted)) works-entered
+
+            rows : sa .head .resources .0 * 12 ≤ length rs1
+            rows =
+                let (ul, rl, out) = allowed in
+                let (there, space, user) = grant-there in
+                omega (
+                  arith,
+                  works-count works-entered,
+                  started b (k .sound′) r u rl ul out .count,
+                  resources-count h iv it ov ot rs,
+                  put .same,
+                )
+
+            room : is ≢ []
+                → LockRoom (sa .head) ov ot rs1 l2 r (p .holders .0) (sa .at)
+                × ((sa .at + length (vertexOrders 1 2 (layerOf (outerShape (sa .head)) ot ov) (p .holders .0)) + length is) * 3 ≤ length l2)
+            room n =
+                let (ul, rl, out) = allowed in
+                let (there, space, user) = grant-there in
+                let some : waiters b r u ≢ [] = λ e. n (waiting-are ∙ e) in
+                let (grows, more) = guarded-grows b (k .sound′) r u rl ul out some in
+                let (sets, tokens) = guarded-few b (k .sound′) r u rl ul out in
+                let e : withVertex (layerOf (outerShape (sa .head)) ot ov) (p .holders .0) ≡ guarded r u b .book .outer = ap₂ withVertex (works-outer-is works-entered) holders-are ∙ sym grows in
+                let o : length (vertexOrders 1 2 (layerOf (outerShape (sa .head)) ot ov) (p .holders .0)) ≡ length (vertexOrders 1 2 (entered r u b .book .outer) (holdersOf b r))
+                    = ap₂ (λ (L : Layer) (z : ℕ). length (vertexOrders 1 2 L z)) (works-outer-is works-entered) holders-are in
+                let all : (sa .at + length (vertexOrders 1 2 (layerOf (outerShape (sa .head)) ot ov) (p .holders .0)) + length is) * 3 ≤ length l2
+                    = omega (arith, o, more, works-entered .next, long, told, counted, ap length waiting-are) in
+                let one : 1 ≤ length is = some-one is n in (
+                  lock-allowed (k .long .outerVertices) (k .long .outerTokens)
+                      (omega (arith, ap (λ (L : Layer). length (L .sets)) e, after .outer≤, after .users≤))
+                      (omega (arith, ap (λ (L : Layer). length (L .tokens)) e, after .outerTokens≤))
+                      rows
+                      (omega (arith, works-count works-entered, started b (k .sound′) r u rl ul out .count, resources-count h iv it ov ot rs))
+                      (omega arith),
+                  all,
+                )
