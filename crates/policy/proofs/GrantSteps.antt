@@ -238,3 +238,94 @@ module _ (h : Head) (iv it ov ot rs list : List ℕ) (r u : ℕ) (ok : Accepted 
                       (omega arith),
                   all,
                 )
+
+        -- ---- the neighbours
+
+        module _ {sb : Step} {ov3 ot3 rs3 l3 : List ℕ}
+            (second : Works (lockGroup (waitingIn (sa .head) rs1 r (x .inner) p) (p .holders .0) (bookIn (sa .head) (tables iv it2 ov ot rs1)))
+            (sa .head) (tables iv it2 ov ot rs1) l2 (sa .at) sb (tables iv it2 ov3 ot3 rs3) l3) where
+          works-guarded : Works (guarded r u b) h t list 0 sb (tables iv it2 ov3 ot3 rs3) l3
+          works-guarded =
+              works-on (lockGroup (waiters b r u) (holdersOf b r)) (omega (arith, told, counted)) works-entered
+              (λ i. lockGroup (waiting-are i) (holders-are i) (works-entered .book i)) second
+
+          pub grant-settle : SettleRoom (sb .head) ov3 ot3 rs3 l3 r (x .outer) l (sb .at) (p .free)
+          unfolding settleRow hasOuter relock done
+          grant-settle =
+              let (ul, rl, out) = allowed in
+              let outer = settled-outer b (k .sound′) r u rl ul out in
+              record {
+                unlocks =
+                    λ e.
+                    record {
+                      rows = rows;
+                      there = there;
+                      orders =
+                          λ n.
+                          let one = ap (λ (d : Done). length (d .orders)) (own e n) in
+                          omega (arith, one, works-guarded .next, long, told, counted);
+                    };
+                locks =
+                    λ e.
+                    let no : agreed r u b ≡ false = sym free-is ∙ e in
+                    let L = layerOf (outerShape (sb .head)) ot3 ov3 in
+                    let made : withVertex L l ≡ settled r u b .book .outer
+                        = ap₂ withVertex (works-outer-is works-guarded) list-is ∙ sym (rw no at outer) in
+                    let orders : length (vertexOrders 1 2 L l) ≡ length (vertexOrders 1 2 (guarded r u b .book .outer) (grantedList r u b))
+                        = ap₂ (λ (M : Layer) (z : ℕ). length (vertexOrders 1 2 M z)) (works-outer-is works-guarded) list-is in
+                    let own : length (settleRow r u b (guarded r u b .book) .orders) ≡ length (vertexOrders 1 2 (guarded r u b .book .outer) (grantedList r u b)) + 1
+                        = rw no (lock-orders r (grantedList r u b) (guarded r u b .book)) in
+                    lock-allowed
+                    (omega (arith, k .long .outerVertices, works-guarded .past .outerVertices .same))
+                    (omega (arith, k .long .outerTokens, works-guarded .past .outerTokens .same))
+                    (omega (arith, ap (λ (M : Layer). length (M .sets)) made, after .outer≤, after .users≤))
+                    (omega (arith, ap (λ (M : Layer). length (M .tokens)) made, after .outerTokens≤))
+                    rows
+                    there
+                    (omega (arith, orders, own, works-guarded .next, long, told, counted));
+              }
+            where
+              long : length l3 ≡ length list
+              long = works-long (omega (arith, told, counted)) works-guarded
+
+              count : sb .head .resources .0 ≡ h .resources .0
+              count =
+                  let (ul, rl, out) = allowed in
+                  works-count works-guarded ∙ guarded-count b (k .sound′) r u rl ul out ∙ resources-count h iv it ov ot rs
+
+              rows : sb .head .resources .0 * 12 ≤ length rs3
+              rows = let (there, space, user) = grant-there in omega (arith, count, works-guarded .past .resources .same)
+
+              there : r < sb .head .resources .0
+              there = let (there, space, user) = grant-there in omega (arith, count)
+
+              own : p .free ≡ true → x .outer ≢ none → settleRow r u b (guarded r u b .book) ≡ relock r none (guarded r u b .book)
+              own e n =
+                  let yes : agreed r u b ≡ true = sym free-is ∙ e in
+                  rw (yes, ne-eqb (resource b r .outer) none (λ q. n (ap (λ (y : Resource). y .outer) x-is ∙ q)))
+
+          -- ---- the folder itself
+
+          module _ {sc : Step} {ov4 ot4 rs4 l4 : List ℕ}
+              (third : Works (settleBy (p .free) r (x .outer) l (bookIn (sb .head) (tables iv it2 ov3 ot3 rs3)))
+              (sb .head) (tables iv it2 ov3 ot3 rs3) l3 (sb .at) sc (tables iv it2 ov4 ot4 rs4) l4) where
+            settle-same : settleBy (p .free) r (x .outer) l (bookIn (sb .head) (tables iv it2 ov3 ot3 rs3)) ≡ settleRow r u b (guarded r u b .book)
+            unfolding settleBy unlockBy settleRow hasOuter
+            settle-same = λ i. settleBy (free-is i) r (x-is i .outer) (list-is i) (works-guarded .book i)
+
+            works-settled : Works (settled r u b) h t list 0 sc (tables iv it2 ov4 ot4 rs4) l4
+            works-settled = works-on (settleRow r u b) (omega (arith, told)) works-guarded settle-same third
+
+            pub grant-count : sc .at < 65536
+            grant-count =
+                let (ul, rl, out) = allowed in
+                omega (arith, works-settled .next, settled-orders b (k .sound′) r u rl ul out after)
+
+            -- the tables and the list keep their lengths
+            pub grant-long : length l4 ≡ length list
+            grant-long = works-long (omega (arith, told)) works-settled
+
+            pub grant-done : TableBytes (tables iv it2 ov4 ot4 rs4) → applied (record { head = sc .head; count = sc .at }) (tables iv it2 ov4 ot4 rs4) l4 ≡ change (grants r u) h t list
+            grant-done bytes =
+                works-change (grants r u) h t (tables iv it2 ov4 ot4 rs4) list l4 (record { head = sc .head; count = sc .at }) sc ok bytes
+                (subst (λ (d : Done). Works d h t list 0 sc (tables iv it2 ov4 ot4 rs4) l4) (sym work-is) works-settled) refl refl
