@@ -226,9 +226,9 @@ module _ (h : Head) (iv it ov ot rs list : List ℕ) (r u : ℕ) (ok : Accepted 
                 let (sets, tokens) = guarded-few b (k .sound′) r u rl ul out in
                 let e : withVertex (layerOf (outerShape (sa .head)) ot ov) (p .holders .0) ≡ guarded r u b .book .outer = ap₂ withVertex (works-outer-is works-entered) holders-are ∙ sym grows in
                 let o : length (vertexOrders 1 2 (layerOf (outerShape (sa .head)) ot ov) (p .holders .0)) ≡ length (vertexOrders 1 2 (entered r u b .book .outer) (holdersOf b r))
-                    = ap₂ (λ (L : Layer) (z : ℕ). length (vertexOrders 1 2 L z)) (works-outer-is works-entered) holders-are in
+                = ap₂ (λ (L : Layer) (z : ℕ). length (vertexOrders 1 2 L z)) (works-outer-is works-entered) holders-are in
                 let all : (sa .at + length (vertexOrders 1 2 (layerOf (outerShape (sa .head)) ot ov) (p .holders .0)) + length is) * 3 ≤ length l2
-                    = omega (arith, o, more, works-entered .next, long, told, counted, ap length waiting-are) in
+                = omega (arith, o, more, works-entered .next, long, told, counted, ap length waiting-are) in
                 let one : 1 ≤ length is = some-one is n in (
                   lock-allowed (k .long .outerVertices) (k .long .outerTokens)
                       (omega (arith, ap (λ (L : Layer). length (L .sets)) e, after .outer≤, after .users≤))
@@ -270,11 +270,11 @@ module _ (h : Head) (iv it ov ot rs list : List ℕ) (r u : ℕ) (ok : Accepted 
                     let no : agreed r u b ≡ false = sym free-is ∙ e in
                     let L = layerOf (outerShape (sb .head)) ot3 ov3 in
                     let made : withVertex L l ≡ settled r u b .book .outer
-                        = ap₂ withVertex (works-outer-is works-guarded) list-is ∙ sym (rw no at outer) in
+                    = ap₂ withVertex (works-outer-is works-guarded) list-is ∙ sym (rw no at outer) in
                     let orders : length (vertexOrders 1 2 L l) ≡ length (vertexOrders 1 2 (guarded r u b .book .outer) (grantedList r u b))
-                        = ap₂ (λ (M : Layer) (z : ℕ). length (vertexOrders 1 2 M z)) (works-outer-is works-guarded) list-is in
+                    = ap₂ (λ (M : Layer) (z : ℕ). length (vertexOrders 1 2 M z)) (works-outer-is works-guarded) list-is in
                     let own : length (settleRow r u b (guarded r u b .book) .orders) ≡ length (vertexOrders 1 2 (guarded r u b .book .outer) (grantedList r u b)) + 1
-                        = rw no (lock-orders r (grantedList r u b) (guarded r u b .book)) in
+                    = rw no (lock-orders r (grantedList r u b) (guarded r u b .book)) in
                     lock-allowed
                     (omega (arith, k .long .outerVertices, works-guarded .past .outerVertices .same))
                     (omega (arith, k .long .outerTokens, works-guarded .past .outerTokens .same))
