@@ -1,7 +1,7 @@
 -- The work of a grant on the tables: the room that each of its pieces has, and that the pieces are the work that the rules give.
 -- Assumes nothing.
-use Prim.Native.Nat.{ℕ, _+_, _*_, _≤_, _<_}
-use mathlib.Core.Path.{_≡_, refl, sym, ap, ap₂, _∙_, subst}
+use Prim.Native.Nat.{ℕ, _+_, _≤_, _<_}
+use mathlib.Core.Path.{_≡_, refl, sym, ap, _∙_}
 use mathlib.Core.Bool.{Bool, true, false, _&&_, not, cond}
 use mathlib.Core.Logic.{_≢_}
 use mathlib.Core.List.{List, [], _∷_, _++_, map}
@@ -9,8 +9,8 @@ use native.Mathlib.Decide.{ℕ-discrete}
 use native.Mathlib.Omega.{arith}
 use lib.Dec.{eqb}
 use lib.ListN.{length, length-append, length-map, length-set}
-use borrow.Author.Tests.{eqb-true, eqb-false, eq-eqb, ne-eqb}
-use Rattle.sets.specs.Sets.{has, single, union}
+use borrow.Author.Tests.{eqb-true, eqb-false, eq-eqb}
+use Rattle.sets.specs.Sets.{has, single}
 use Rattle.rules.specs.Lists.{keep, upTo}
 use Rattle.rules.specs.Layer.{Layer, token, vertexFor, withVertex}
 use Rattle.rules.specs.Book.{Book, Resource, resource, hasOuter, withInner, withResources, withList, withLock, withOuter}
@@ -115,13 +115,20 @@ unfolding lockGroup done _then_ outerVertex withOuter
 group-rows [] s b = refl
 group-rows (i ∷ is) s b = relocked-count (i ∷ is) (vertexFor (b .outer) s) (outerVertex s b .book)
 
-module _ (b : Book) (h : sound b ≡ true) (r u : ℕ) (l : r < length (b .resources)) (un : u < b .users) (out : has (resource b r .list) u ≡ false) where
+-- r may be granted to u: both are there, and u is not listed
+pub record Grantable (b : Book) (r u : ℕ) : Type 0 where
+  pub sound′ : sound b ≡ true
+  pub there : r < length (b .resources)
+  pub joined : u < b .users
+  pub unlisted : has (resource b r .list) u ≡ false
+
+module _ {b : Book} {r u : ℕ} (g : Grantable b r u) where
   pub pieces : grant r u b ≡ settled r u b
-  pieces = grant-plan b h r u l un out
+  pieces = grant-plan b (g .sound′) r u (g .there) (g .joined) (g .unlisted)
 
   pub started : Started b (entered r u b .book) r u
   unfolding _then_ done
-  started = grant-starts b h r u l un
+  started = grant-starts b (g .sound′) r u (g .there) (g .joined)
 
   -- the rows of resources stay as many
   pub guarded-count : length (guarded r u b .book .resources) ≡ length (b .resources)
@@ -133,23 +140,23 @@ module _ (b : Book) (h : sound b ≡ true) (r u : ℕ) (l : r < length (b .resou
   unfolding _then_ done
   settled-outer =
       ap (λ (d : Done). d .book .outer) (sym pieces)
-      ∙ grant-outer b h r u l un out
-      ∙ ap (λ (e : Book). cond (agreed r u b) (e .outer) (withVertex (e .outer) (grantedList r u b))) (locked-book b h r u l un)
+      ∙ grant-outer b (g .sound′) r u (g .there) (g .joined) (g .unlisted)
+      ∙ ap (λ (e : Book). cond (agreed r u b) (e .outer) (withVertex (e .outer) (grantedList r u b))) (locked-book b (g .sound′) r u (g .there) (g .joined))
 
   -- what the neighbours' vertex adds is there at the end
   pub guarded-few : (length (guarded r u b .book .outer .sets) ≤ length (settled r u b .book .outer .sets))
       × (length (guarded r u b .book .outer .tokens) ≤ length (settled r u b .book .outer .tokens))
   guarded-few = go (agreed r u b) settled-outer
     where
-      g : Layer
-      g = guarded r u b .book .outer
+      L : Layer
+      L = guarded r u b .book .outer
 
-      go : (z : Bool) → settled r u b .book .outer ≡ cond z g (withVertex g (grantedList r u b))
-          → (length (g .sets) ≤ length (settled r u b .book .outer .sets)) × (length (g .tokens) ≤ length (settled r u b .book .outer .tokens))
-      go true e = (omega (arith, ap (λ (L : Layer). length (L .sets)) e), omega (arith, ap (λ (L : Layer). length (L .tokens)) e))
+      go : (z : Bool) → settled r u b .book .outer ≡ cond z L (withVertex L (grantedList r u b))
+          → (length (L .sets) ≤ length (settled r u b .book .outer .sets)) × (length (L .tokens) ≤ length (settled r u b .book .outer .tokens))
+      go true e = (omega (arith, ap (λ (M : Layer). length (M .sets)) e), omega (arith, ap (λ (M : Layer). length (M .tokens)) e))
       go false e = (
-        omega (arith, ap (λ (L : Layer). length (L .sets)) e, withVertex-vertices g (grantedList r u b)),
-        omega (arith, ap (λ (L : Layer). length (L .tokens)) e, withVertex-tokens g (grantedList r u b)),
+        omega (arith, ap (λ (M : Layer). length (M .sets)) e, withVertex-vertices L (grantedList r u b)),
+        omega (arith, ap (λ (M : Layer). length (M .tokens)) e, withVertex-tokens L (grantedList r u b)),
       )
 
   -- a group's vertex and orders
@@ -167,16 +174,16 @@ module _ (b : Book) (h : sound b ≡ true) (r u : ℕ) (l : r < length (b .resou
   settled-orders c =
       omega (
         arith,
-        ap (λ (d : Done). length (d .orders)) (sym pieces) ∙ grant-orders b h r u l un out,
-        ap (λ (d : Done). length (d .book .outer .tokens)) (sym pieces) ∙ grant-tokens b h r u l un out,
+        ap (λ (d : Done). length (d .orders)) (sym pieces) ∙ grant-orders b (g .sound′) r u (g .there) (g .joined) (g .unlisted),
+        ap (λ (d : Done). length (d .book .outer .tokens)) (sym pieces) ∙ grant-tokens b (g .sound′) r u (g .there) (g .joined) (g .unlisted),
         c .outerTokens≤,
         one-or-none (has (holdersOf b r) u),
         any-few (waiters b r u) (newVertices (b .outer) (holdersOf b r)) (newTokens (b .outer) (holdersOf b r)) (length (waiters b r u)),
         own-few (agreed r u b) (hasOuter (resource b r)) (newVertices (b .outer) (grantedList r u b)) (newTokens (b .outer) (grantedList r u b)),
         newVertices-one (b .outer) (holdersOf b r),
         newVertices-one (b .outer) (grantedList r u b),
-        waiters-fewer b r u l,
-        sound-counts b h .resources≤,
+        waiters-fewer b r u (g .there),
+        sound-counts b (g .sound′) .resources≤,
       )
     where
       one-or-none : (z : Bool) → cond z 0 1 ≤ 1

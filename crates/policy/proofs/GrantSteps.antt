@@ -2,18 +2,17 @@
 -- Assumes nothing.
 use Prim.Native.Nat.{ℕ, _+_, _*_, _≤_, _<_}
 use mathlib.Core.Path.{_≡_, refl, sym, ap, ap₂, _∙_, subst}
-use mathlib.Core.Bool.{Bool, true, false, _&&_, not, cond}
+use mathlib.Core.Bool.{true, false, _&&_, not, cond}
 use mathlib.Core.Logic.{_≢_}
 use mathlib.Core.List.{List, [], _∷_}
 use native.Mathlib.Omega.{arith}
 use lib.Dec.{eqb}
 use lib.ListN.{length}
-use borrow.Author.Tests.{not-true, eq-eqb, ne-eqb}
+use borrow.Author.Tests.{not-true, ne-eqb}
 use Rattle.sets.specs.Sets.{has, single, union}
-use Rattle.rows.specs.Number.{stored}
 use Rattle.rows.proofs.Laws.{length-stored}
 use Rattle.rules.specs.Layer.{Layer, vertexFor, withVertex}
-use Rattle.rules.specs.Book.{Book, Resource, none, resource, hasOuter, withList}
+use Rattle.rules.specs.Book.{Book, Resource, none, resource, hasOuter}
 use Rattle.rules.specs.Holders.{holdersOf}
 use Rattle.rules.specs.Requests.{Done, done, _then_, relock, vertexOrders, letIn, grant}
 use Rattle.rules.specs.Refusals.{grants, work}
@@ -31,16 +30,14 @@ use Rattle.layer.specs.Laid.{layerOf}
 use Rattle.policy.specs.Write.{Resources, row, waitersIn}
 use Rattle.policy.specs.Write as rows
 use Rattle.policy.specs.Judge.{planOf, outerShape}
-use Rattle.policy.specs.Apply.{Works, lockWith, LockRoom, Accepted, applied}
-use Rattle.policy.specs.Grant.{letInBy, LetInRoom, waitingIn, GroupRoom, unlockBy, settleBy, UnlockRoom, SettleRoom}
+use Rattle.policy.specs.Apply.{Works, LockRoom, Accepted, applied}
+use Rattle.policy.specs.Grant.{letInBy, LetInRoom, waitingIn, GroupRoom, unlockBy, settleBy, SettleRoom}
 use Rattle.policy.specs.declared.plan.Plan.{Plan}
 use Rattle.policy.specs.declared.step.Step.{Step}
-use Rattle.policy.specs.declared.apply.Applied.{Applied}
 use Rattle.policy.proofs.ReadyLaws.{resources-count, users-count, inner-count, inner-tokens-count, row-read}
 use Rattle.policy.proofs.WorksLaws.{step, works-list, works-then, works-change, outer-in, lock-orders}
 use Rattle.policy.proofs.ApplyLaws.{Known, known, lock-allowed}
-use Rattle.policy.proofs.GrantWorks.{some-left}
-use Rattle.policy.proofs.GrantLaws.{then-orders, let-in-is, waiters-are, listed, entered, guarded, settled, pieces, started, guarded-count, settled-outer, guarded-few, guarded-grows, settled-orders}
+use Rattle.policy.proofs.GrantLaws.{Grantable, then-orders, let-in-is, waiters-are, listed, entered, guarded, settled, pieces, started, guarded-count, settled-outer, guarded-few, guarded-grows, settled-orders}
 
 -- ---- a piece of work that the code names in its own terms
 
@@ -80,25 +77,21 @@ module _ (h : Head) (iv it ov ot rs list : List ℕ) (r u : ℕ) (ok : Accepted 
   k : Known (grants r u) h t list
   k = known (grants r u) h t list ok
 
-  allowed : (u < b .users) × (r < length (b .resources)) × (has (resource b r .list) u ≡ false)
+  g : Grantable b r u
   unfolding Allowed
-  allowed = k .allowed
+  g = let (joined, there, unlisted) = k .allowed in record { sound′ = k .sound′; there = there; joined = joined; unlisted = unlisted }
 
   pub grant-there : (r < h .resources .0) × (h .resources .0 * 12 ≤ length rs) × (u < 64)
-  grant-there =
-      let (ul, rl, out) = allowed in (
-        omega (arith, resources-count h iv it ov ot rs),
-        k .sizes′ .room .resources,
-        omega (arith, users-count h iv it ov ot rs, k .sizes′ .users≤),
-      )
+  grant-there = (
+    omega (arith, g .there, resources-count h iv it ov ot rs),
+    k .sizes′ .room .resources,
+    omega (arith, g .joined, users-count h iv it ov ot rs, k .sizes′ .users≤),
+  )
 
   -- the rules' work, by pieces
-  by-pieces : grant r u b ≡ settled r u b
-  by-pieces = let (ul, rl, out) = allowed in pieces b (k .sound′) r u rl ul out
-
   work-is : work (grants r u) b ≡ settled r u b
   unfolding work
-  work-is = by-pieces
+  work-is = pieces g
 
   after : Counts (settled r u b .book)
   after = subst (λ (d : Done). Counts (d .book)) work-is (k .after)
@@ -130,28 +123,26 @@ module _ (h : Head) (iv it ov ot rs list : List ℕ) (r u : ℕ) (ok : Accepted 
     -- where a token is added: one inner token and one order
     adds : p .token ≡ true → (h .«inner_tokens» .0 + 1 ≤ 4096) × (3 ≤ length list)
     adds e =
-        let (ul, rl, out) = allowed in
         let no : has (holdersOf b r) u ≡ false = not-true (has (holdersOf b r) u) (sym token-is ∙ e) in (
           omega (
             arith,
-            rw no at (grant-inner-tokens b (k .sound′) r u rl ul),
+            rw no at (grant-inner-tokens b (k .sound′) r u (g .there) (g .joined)),
             inner-tokens-count h iv it ov ot rs,
-            ap (λ (d : Done). length (d .book .inner .tokens)) by-pieces,
+            ap (λ (d : Done). length (d .book .inner .tokens)) (pieces g),
             after .innerTokens≤,
           ),
-          omega (arith, rw no at (grant-orders b (k .sound′) r u rl ul out), told, ap (λ (d : Done). length (d .orders)) by-pieces),
+          omega (arith, rw no at (grant-orders b (k .sound′) r u (g .there) (g .joined) (g .unlisted)), told, ap (λ (d : Done). length (d .orders)) (pieces g)),
         )
 
     pub grant-let-in : LetInRoom h iv it list u (p .token)
     unfolding vertexFor bookIn
     grant-let-in =
-        let (ul, rl, out) = allowed in
         let (there, rows, user) = grant-there in
         record {
           user = user;
           sets = k .sizes′ .room .innerVertices;
           few = omega (arith, k .sizes′ .inner≤);
-          own = omega (arith, own-there (b .users) (b .inner) (sound-kept b (k .sound′) .inner) u ul .0, inner-count h iv it ov ot rs);
+          own = omega (arith, own-there (b .users) (b .inner) (sound-kept b (k .sound′) .inner) u (g .joined) .0, inner-count h iv it ov ot rs);
           rows = λ e. omega (arith, adds e .0, k .long .innerTokens);
           tokens< = omega (arith, k .sizes′ .innerTokens≤);
           orders = λ e. adds e .1;
@@ -177,8 +168,7 @@ module _ (h : Head) (iv it ov ot rs list : List ℕ) (r u : ℕ) (ok : Accepted 
         let-in-same : letInBy (p .token) u (x .inner) (bookIn h (tables iv it ov ot rs1)) ≡ letIn r u (listed r u b .book)
         unfolding done
         let-in-same =
-            let (ul, rl, out) = allowed in
-            (λ i. letInBy (token-is i) u (x-is i .inner) (works-listed .book i)) ∙ let-in-is b r u (grantedList r u b) rl
+            (λ i. letInBy (token-is i) u (x-is i .inner) (works-listed .book i)) ∙ let-in-is b r u (grantedList r u b) (g .there)
 
         works-entered : Works (entered r u b) h t list 0 sa (tables iv it2 ov ot rs1) l2
         works-entered = works-on (letIn r u) (omega (arith, told, counted)) works-listed let-in-same first
@@ -190,9 +180,8 @@ module _ (h : Head) (iv it ov ot rs list : List ℕ) (r u : ℕ) (ok : Accepted 
         waiting-are : waitingIn (sa .head) rs1 r (x .inner) p ≡ waiters b r u
         unfolding waitingIn bookIn
         waiting-are =
-            let (ul, rl, out) = allowed in
             (λ i. cond (eqb (works-entered .book i .mode) 1 && token-is i) (waitersIn (works-entered .book i .resources) r (x-is i .inner) (holders-are i)) [])
-            ∙ waiters-are b (entered r u b .book) r u (started b (k .sound′) r u rl ul out)
+            ∙ waiters-are b (entered r u b .book) r u (started g)
 
         pub grant-group : GroupRoom (sa .head) ov ot rs1 l2 (waitingIn (sa .head) rs1 r (x .inner) p) (p .holders .0) (sa .at)
         grant-group = record { rows = rows; fits = λ n. room n .0 .fits; orders = λ n. room n .1; tokens< = λ n. room n .0 .tokens< }
@@ -205,12 +194,11 @@ module _ (h : Head) (iv it ov ot rs list : List ℕ) (r u : ℕ) (ok : Accepted 
 
             rows : sa .head .resources .0 * 12 ≤ length rs1
             rows =
-                let (ul, rl, out) = allowed in
                 let (there, space, user) = grant-there in
                 omega (
                   arith,
                   works-count works-entered,
-                  started b (k .sound′) r u rl ul out .count,
+                  started g .count,
                   resources-count h iv it ov ot rs,
                   put .same,
                 )
@@ -219,11 +207,10 @@ module _ (h : Head) (iv it ov ot rs list : List ℕ) (r u : ℕ) (ok : Accepted 
                 → LockRoom (sa .head) ov ot rs1 l2 r (p .holders .0) (sa .at)
                 × ((sa .at + length (vertexOrders 1 2 (layerOf (outerShape (sa .head)) ot ov) (p .holders .0)) + length is) * 3 ≤ length l2)
             room n =
-                let (ul, rl, out) = allowed in
                 let (there, space, user) = grant-there in
                 let some : waiters b r u ≢ [] = λ e. n (waiting-are ∙ e) in
-                let (grows, more) = guarded-grows b (k .sound′) r u rl ul out some in
-                let (sets, tokens) = guarded-few b (k .sound′) r u rl ul out in
+                let (grows, more) = guarded-grows g some in
+                let (sets, tokens) = guarded-few g in
                 let e : withVertex (layerOf (outerShape (sa .head)) ot ov) (p .holders .0) ≡ guarded r u b .book .outer = ap₂ withVertex (works-outer-is works-entered) holders-are ∙ sym grows in
                 let o : length (vertexOrders 1 2 (layerOf (outerShape (sa .head)) ot ov) (p .holders .0)) ≡ length (vertexOrders 1 2 (entered r u b .book .outer) (holdersOf b r))
                 = ap₂ (λ (L : Layer) (z : ℕ). length (vertexOrders 1 2 L z)) (works-outer-is works-entered) holders-are in
@@ -234,7 +221,7 @@ module _ (h : Head) (iv it ov ot rs list : List ℕ) (r u : ℕ) (ok : Accepted 
                       (omega (arith, ap (λ (L : Layer). length (L .sets)) e, after .outer≤, after .users≤))
                       (omega (arith, ap (λ (L : Layer). length (L .tokens)) e, after .outerTokens≤))
                       rows
-                      (omega (arith, works-count works-entered, started b (k .sound′) r u rl ul out .count, resources-count h iv it ov ot rs))
+                      (omega (arith, works-count works-entered, started g .count, resources-count h iv it ov ot rs))
                       (omega arith),
                   all,
                 )
@@ -252,8 +239,7 @@ module _ (h : Head) (iv it ov ot rs list : List ℕ) (r u : ℕ) (ok : Accepted 
           pub grant-settle : SettleRoom (sb .head) ov3 ot3 rs3 l3 r (x .outer) l (sb .at) (p .free)
           unfolding settleRow hasOuter relock done
           grant-settle =
-              let (ul, rl, out) = allowed in
-              let outer = settled-outer b (k .sound′) r u rl ul out in
+              let outer = settled-outer g in
               record {
                 unlocks =
                     λ e.
@@ -290,8 +276,7 @@ module _ (h : Head) (iv it ov ot rs list : List ℕ) (r u : ℕ) (ok : Accepted 
 
               count : sb .head .resources .0 ≡ h .resources .0
               count =
-                  let (ul, rl, out) = allowed in
-                  works-count works-guarded ∙ guarded-count b (k .sound′) r u rl ul out ∙ resources-count h iv it ov ot rs
+                  works-count works-guarded ∙ guarded-count g ∙ resources-count h iv it ov ot rs
 
               rows : sb .head .resources .0 * 12 ≤ length rs3
               rows = let (there, space, user) = grant-there in omega (arith, count, works-guarded .past .resources .same)
@@ -318,8 +303,7 @@ module _ (h : Head) (iv it ov ot rs list : List ℕ) (r u : ℕ) (ok : Accepted 
 
             pub grant-count : sc .at < 65536
             grant-count =
-                let (ul, rl, out) = allowed in
-                omega (arith, works-settled .next, settled-orders b (k .sound′) r u rl ul out after)
+                omega (arith, works-settled .next, settled-orders g after)
 
             -- the tables and the list keep their lengths
             pub grant-long : length l4 ≡ length list

@@ -1,8 +1,8 @@
 -- The pieces of a grant: what the code of each leaves is the work that the plan names.
 -- Assumes nothing.
-use Prim.Native.Nat.{ℕ, zero, suc, _+_, _*_, _≤_, _<_}
-use mathlib.Core.Path.{_≡_, refl, sym, ap, ap₂, _∙_, subst}
-use mathlib.Core.Bool.{Bool, true, false, _&&_, not, cond, true≢false, and-false}
+use Prim.Native.Nat.{ℕ, _+_, _*_, _≤_, _<_}
+use mathlib.Core.Path.{_≡_, refl, sym, ap, _∙_, subst}
+use mathlib.Core.Bool.{Bool, true, false, _&&_, not, cond, and-false}
 use mathlib.Core.Logic.{_≢_}
 use mathlib.Core.List.{List, [], _∷_, _++_, map, map-map}
 use native.Mathlib.Omega.{arith}
@@ -12,7 +12,7 @@ use borrow.Author.Tests.{eq-eqb, ne-eqb, not-true, not-false}
 use Rattle.sets.specs.Sets.{single}
 use Rattle.rows.specs.Number.{stored, joined}
 use Rattle.rules.specs.Layer.{Layer, token, vertexFor, withVertex}
-use Rattle.rules.specs.Book.{Book, Resource, none, resource, withResources, withLock}
+use Rattle.rules.specs.Book.{Book, none, resource, withResources, withLock}
 use Rattle.rules.specs.Book as book
 use Rattle.rules.specs.Lists.{first}
 use Rattle.rules.specs.Bytes.{Tables, tables, bookIn, setsIn, resourcesIn}

@@ -9,7 +9,7 @@ use lib.Dec.{eqb}
 use lib.ListN.{length}
 use Rattle.sets.specs.Sets.{single}
 use Rattle.rules.specs.Layer.{token, vertexFor, withVertex}
-use Rattle.rules.specs.Book.{Book, Resource, none, withInner}
+use Rattle.rules.specs.Book.{Book, none, withInner}
 use Rattle.rules.specs.Bytes.{resourcesIn}
 use Rattle.rules.specs.Requests.{Done, done, order, relock, vertexOrders}
 use Rattle.rules.specs.declared.Head.{Head}

@@ -105,7 +105,12 @@ same-length-4 c = search needs
 same-length-5 : tie.Need-same-length-5
 same-length-5 c =
     let locked = guarded (last c) in
-    last c .settle .ensures [] [] .past .resources .same ∙ locked .lock-waiting .ensures [] [] .past .resources .same ∙ relisted (entered locked) .relist .ensures .same
+    omega (
+      arith,
+      last c .settle .ensures [] [] .past .resources .same,
+      locked .lock-waiting .ensures [] [] .past .resources .same,
+      relisted (entered locked) .relist .ensures .same,
+    )
 
 same-length-6 : tie.Need-same-length-6
 same-length-6 c =
