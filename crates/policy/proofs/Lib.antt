@@ -6,3 +6,4 @@ pub mod ApplyLaws
 pub mod GrantWorks
 pub mod GrantLaws
 pub mod GrantSteps
+pub mod InsertLaws

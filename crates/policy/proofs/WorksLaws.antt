@@ -1,18 +1,18 @@
 -- Pieces of work on the tables, one after the other, and the whole of a request's work as its call's change.
 -- Assumes nothing.
 use Prim.Native.Nat.{ℕ, _+_, _*_, _-_, _≤_, _<_}
-use mathlib.Core.Path.{_≡_, refl, sym, ap, ap₂, _∙_, subst}
-use mathlib.Core.List.{List, [], _∷_, _++_, map, append-assoc}
+use mathlib.Core.Path.{_≡_, refl, sym, ap, _∙_, subst}
+use mathlib.Core.List.{List, [], _∷_, _++_, append-assoc}
 use native.Mathlib.Nat.{mul-le-mul-right, add-sub-of-le, add-zero, zero-add, zero-mul}
 use native.Mathlib.Omega.{arith}
 use lib.ListN.{length, take, drop, getD, length-append, take-append-drop}
 use lib.Seq.{drop-drop, length-take-le}
 use Rattle.rows.specs.Number.{stored, joined}
-use Rattle.rows.proofs.Laws.{stored-add, stored-none}
+use Rattle.rows.proofs.Laws.{stored-add, stored-none, length-stored}
 use Rattle.rules.specs.Layer.{Layer, vertexFor, withVertex}
 use Rattle.rules.specs.Book.{Book, Resource, resource, withResources, withList, withLock}
 use Rattle.rules.specs.Book as book
-use Rattle.rules.specs.Requests.{Done, done, order, _then_, vertexOrders, outerVertex, innerVertex, relock}
+use Rattle.rules.specs.Requests.{Done, done, order, _then_, vertexOrders, outerVertex, innerVertex, relock, encrypt}
 use Rattle.rules.specs.Bytes.{Tables, tables, bookIn, headOf, laid, Room, resourcesIn}
 use Rattle.rules.specs.Refusals.{Request, work}
 use Rattle.rules.specs.Calls.{change, changeBy, changing, rowsLent, orderRow, orderRows}
@@ -20,7 +20,7 @@ use Rattle.rules.specs.declared.Head.{Head}
 use Rattle.rules.specs.declared.Order.{Order}
 use Rattle.rules.specs.declared.Changed.the-variants.{Done as Did}
 use Rattle.theorems.proofs.CountLaws.{newVertices-one, withVertex-vertices, withVertex-tokens}
-use Rattle.theorems.proofs.ByteLaws.{TableBytes, sectionsOf, head-in, sections-in, sound-room}
+use Rattle.theorems.proofs.ByteLaws.{TableBytes, head-in, sections-in, sound-room}
 use Rattle.theorems.proofs.RequestLaws.{accepted-long, work-sound}
 use Rattle.theorems.proofs.ServeLaws.{length-orders}
 use Rattle.layer.specs.Laid.{layerOf}
@@ -28,8 +28,8 @@ use Rattle.layer.specs.Cover.{orderOf}
 use Rattle.layer.specs.Make.{Fits, VertexFor}
 use Rattle.layer.specs.declared.walk.Shape.{Shape}
 use Rattle.layer.specs.declared.make.Made.{Made}
-use Rattle.layer.proofs.Read.{layer-sets, layer-tokens}
-use Rattle.policy.specs.Write.{Resources, listed, locked}
+use Rattle.layer.proofs.Read.{length-resources, layer-sets, layer-tokens}
+use Rattle.policy.specs.Write.{Resources, ResourceAdded, listed, locked}
 use Rattle.policy.specs.Judge.{innerShape, outerShape}
 use Rattle.policy.specs.Step.{withInner, withOuter}
 use Rattle.policy.specs.Apply.{Grown, Past, Rest, Works, lockWith, LockRoom, Accepted, applied}
@@ -144,16 +144,16 @@ unfolding bookIn layerOf
 inner-in h t = refl
 
 -- what finding or making a vertex leaves of its layer's two tables
-record Layered (l k : Shape) (L : Layer) (ts vs ts' vs' : List ℕ) : Type 0 where
+record MadeIn (l k : Shape) (L : Layer) (ts vs ts' vs' : List ℕ) : Type 0 where
   layer : layerOf (record { width = l .width; tokens = k .tokens; vertices = k .vertices }) ts' vs' ≡ L
   vertices≤ : l .vertices ≤ k .vertices
   tokens≤ : l .tokens ≤ k .tokens
   vertices-past : Past (k .vertices) 8 vs vs'
   tokens-past : Past (k .tokens) (l .width) ts ts'
 
-layered : (l : Shape) (s at kv kt : ℕ) (ts vs os : List ℕ) (m : Made) (ts' vs' os' : List ℕ) → VertexFor l s at kv kt ts vs os m ts' vs' os'
-    → Layered l (m .shape) (withVertex (layerOf l ts vs) s) ts vs ts' vs'
-layered l s at kv kt ts vs os m ts' vs' os' p =
+made-in : (l : Shape) (s at kv kt : ℕ) (ts vs os : List ℕ) (m : Made) (ts' vs' os' : List ℕ) → VertexFor l s at kv kt ts vs os m ts' vs' os'
+    → MadeIn l (m .shape) (withVertex (layerOf l ts vs) s) ts vs ts' vs'
+made-in l s at kv kt ts vs os m ts' vs' os' p =
     let L = layerOf l ts vs in
     record {
       layer = ap (λ (w : ℕ). layerOf (record { width = w; tokens = m .shape .tokens; vertices = m .shape .vertices }) ts' vs') (sym (p .width)) ∙ p .layer;
@@ -170,7 +170,7 @@ pub works-outer : (h : Head) (iv it ov ot rs ov' ot' list l' : List ℕ) (at s :
 unfolding outerVertex done bookIn layerOf book.withOuter
 works-outer h iv it ov ot rs ov' ot' list l' at s m p =
     let b = bookIn h (tables iv it ov ot rs) in
-    let made = layered (outerShape h) s at 1 2 ot ov list m ot' ov' l' p in
+    let made = made-in (outerShape h) s at 1 2 ot ov list m ot' ov' l' p in
     record {
       book = ap (book.withOuter b) (made .layer);
       grown = record { innerVertices = omega arith; innerTokens = omega arith; outerVertices = made .vertices≤; outerTokens = made .tokens≤; resources = omega arith };
@@ -193,7 +193,7 @@ pub works-inner : (h : Head) (iv it ov ot rs iv' it' list l' : List ℕ) (at s :
 unfolding innerVertex done bookIn layerOf book.withInner
 works-inner h iv it ov ot rs iv' it' list l' at s m p =
     let b = bookIn h (tables iv it ov ot rs) in
-    let made = layered (innerShape h) s at 4 5 it iv list m it' iv' l' p in
+    let made = made-in (innerShape h) s at 4 5 it iv list m it' iv' l' p in
     record {
       book = ap (book.withInner b) (made .layer);
       grown = record { innerVertices = made .vertices≤; innerTokens = made .tokens≤; outerVertices = omega arith; outerTokens = omega arith; resources = omega arith };
@@ -224,6 +224,46 @@ pub works-list : (h : Head) (iv it ov ot rs rs' list : List ℕ) (at r l : ℕ) 
 unfolding withList resource bookIn orderRows joined
 works-list h iv it ov ot rs rs' list at r l p =
     rw add-zero at (works-rows h iv it ov ot rs rs' list list at [] p (sym (stored-none (at * 3) list)))
+
+-- the head with n resources
+abbrev pub counting : Head → ℕ → Head
+counting h n =
+    record {
+      mode = h .mode;
+      users = h .users;
+      resources = record { 0 = n };
+      «inner_vertices» = h .«inner_vertices»;
+      «inner_tokens» = h .«inner_tokens»;
+      «outer_vertices» = h .«outer_vertices»;
+      «outer_tokens» = h .«outer_tokens»;
+    }
+
+-- a new resource with list l and inner vertex v
+pub works-encrypt : (h : Head) (iv it ov ot rs rs' list l' : List ℕ) (at l v : ℕ) → ResourceAdded (h .resources .0) l v rs rs'
+    → l' ≡ stored (at * 3) (orderOf 7 (h .resources .0) v) list
+    → let t = tables iv it ov ot rs in
+    Works (encrypt l v (bookIn h t)) h t list at (step (counting h (h .resources .0 + 1)) (at + 1)) (tables iv it ov ot rs') l'
+unfolding encrypt done withResources bookIn orderRows orderRow joined
+works-encrypt h iv it ov ot rs rs' list l' at l v p o =
+    record {
+      book = ap (withResources (bookIn h (tables iv it ov ot rs))) (p .rows);
+      grown = record { innerVertices = omega arith; innerTokens = omega arith; outerVertices = omega arith; outerTokens = omega arith; resources = omega arith };
+      past =
+          record {
+            innerVertices = past-none;
+            innerTokens = past-none;
+            outerVertices = past-none;
+            outerTokens = past-none;
+            resources = record { rest = p .rest; same = p .same };
+          };
+      orders = rw (length-resources (h .resources .0) rs) o;
+      next = refl;
+    }
+
+-- the list keeps its length
+pub works-length : {d : Done} {h : Head} {t u : Tables} {list l' : List ℕ} {at : ℕ} {s : Step} → (s .at) * 3 ≤ length list → Works d h t list at s u l' → length l' ≡ length list
+works-length {d} {list = list} {at = at} room p =
+    ap length (p .orders) ∙ length-stored (at * 3) (orderRows (d .orders)) list (omega (arith, p .next, length-orders (d .orders)))
 
 pub lock-orders : (r s : ℕ) (b : Book) → length (lockWith r s b .orders) ≡ length (vertexOrders 1 2 (b .outer) s) + 1
 unfolding _then_ outerVertex relock done

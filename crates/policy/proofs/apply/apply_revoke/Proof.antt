@@ -4,7 +4,6 @@ use native.Mathlib.Omega.{arith}
 use lib.ListN.{length}
 use borrow.Author.Needs.{needs}
 use Rattle.rules.specs.Bytes.{tables}
-use Rattle.layer.specs.Laid.{resourceIs}
 use Rattle.theorems.proofs.ByteLaws.{TableBytes}
 use Rattle.policy.proofs.ApplyLaws.{revoke-there, revoke-room, revoke-count, revoke-done}
 use Rattle.policy.proofs.apply.apply_revoke.Statement.{statement}
