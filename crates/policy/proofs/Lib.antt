@@ -6,4 +6,7 @@ pub mod RequestCalls
 pub mod WaitLaws
 pub mod WorksLaws
 pub mod ApplyLaws
+pub mod GrantWorks
+pub mod GrantLaws
+pub mod GrantSteps
 pub mod InsertLaws
