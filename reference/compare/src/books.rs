@@ -496,7 +496,7 @@ pub fn longer(random: &mut Random, lent: &mut Lent) {
 }
 
 /// A table with that length; what is new holds one byte.
-fn resize(table: &mut Memory<u8>, length: usize) {
+pub fn resize(table: &mut Memory<u8>, length: usize) {
     let mut content = table.content().to_vec();
     content.resize(length, 0xB2);
     *table = Memory::of(&content);

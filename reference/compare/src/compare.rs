@@ -158,9 +158,20 @@ impl Done {
     }
 }
 
+/// What differs between the two sides.
+#[derive(Clone, Debug, PartialEq, Eq)]
+pub struct Difference {
+    /// What the engine and the model answered: the refusal's number, 0 if
+    /// there is none, nothing for an answer that the interface does not have.
+    /// Smaller cases keep it, so that they do not end at another difference.
+    pub numbers: [Option<u8>; 2],
+    /// Each difference in a line.
+    pub text: String,
+}
+
 /// Makes the call on both sides and compares the answers and all that was
-/// lent; else says what differs.
-pub fn compare(call: Call, lent: &Lent) -> Result<Done, String> {
+/// lent.
+pub fn compare(call: Call, lent: &Lent) -> Result<Done, Difference> {
     let mut by_engine = lent.clone();
     let mut by_model = lent.clone();
     let engine = make::<Engine>(call, &mut by_engine);
@@ -176,7 +187,14 @@ pub fn compare(call: Call, lent: &Lent) -> Result<Done, String> {
                 text += &format!("engine {}, model {}\n", told(&engine), told(&model));
             }
             text += &differences(&by_engine, &by_model, lent);
-            Err(text)
+            let number = |answer: Answer<Given>| {
+                let answer = answer.ok()?;
+                Some(answer.err().map_or(0, |no| no.number))
+            };
+            Err(Difference {
+                numbers: [number(engine), number(model)],
+                text,
+            })
         }
     }
 }

@@ -13,6 +13,7 @@
 //! | [`shrink`] | smaller cases that still differ |
 //! | [`report`] | a difference with its seed and smallest case; bounded runs |
 //! | [`books`] | check, section, read and write |
+//! | `requests` | join, insert, grant, revoke, view and open (feature `requests`) |
 //! | [`command`] | the arguments of the programs |
 //! | `standin` | a stand-in for the library, with faults (feature `self-test`) |
 
@@ -27,6 +28,8 @@ pub mod limits;
 pub mod memory;
 pub mod model;
 pub mod report;
+#[cfg(feature = "requests")]
+pub mod requests;
 pub mod shrink;
 pub mod side;
 #[cfg(feature = "self-test")]

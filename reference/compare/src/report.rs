@@ -5,7 +5,7 @@ use std::time::{Duration, Instant};
 
 use fenstubble_reference::generate::Random;
 
-use crate::compare::{compare, Call, Done, Tally};
+use crate::compare::{compare, Call, Difference, Done, Tally};
 use crate::memory::Lent;
 use crate::shrink::Case;
 
@@ -94,24 +94,33 @@ impl Session {
     /// Makes the call on both sides; a difference is reported with the
     /// smallest case found.
     pub fn compare(&mut self, call: Call, lent: &Lent) -> Result<Done, Box<Report>> {
-        self.attempt(call, lent).map_err(|text| {
+        self.attempt(call, lent).map_err(|found| {
             let lent = lent.clone();
-            let smallest = Case { call, lent }.smallest();
-            self.report(call, text, &smallest, String::new())
+            let mut case = Case { call, lent };
+            if case.differs(found.numbers) {
+                case = case.smallest(found.numbers);
+            }
+            self.report(call, found, &case, String::new())
         })
     }
 
     /// Makes the call on both sides and counts it; a difference is told.
-    pub fn attempt(&mut self, call: Call, lent: &Lent) -> Result<Done, String> {
+    pub fn attempt(&mut self, call: Call, lent: &Lent) -> Result<Done, Difference> {
         let done = compare(call, lent)?;
         self.tally.count(call, done.number());
         Ok(done)
     }
 
     /// The report of a difference; `before` is told before the smallest case.
-    pub fn report(&self, call: Call, text: String, smallest: &Case, before: String) -> Box<Report> {
+    pub fn report(
+        &self,
+        call: Call,
+        found: Difference,
+        smallest: &Case,
+        before: String,
+    ) -> Box<Report> {
         let again = match smallest.difference() {
-            Some(text) => text,
+            Some(again) => again.text,
             None => "made again, it does not differ: something was kept from calls before\n".into(),
         };
         Box::new(Report {
@@ -119,7 +128,7 @@ impl Session {
             seed: self.bounds.seed,
             case: self.case,
             call: call.to_string(),
-            text,
+            text: found.text,
             smallest: format!("{before}{smallest}{again}"),
         })
     }

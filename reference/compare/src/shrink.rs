@@ -8,7 +8,7 @@ use fenstubble_reference::bytes::{self, read_rows, HEAD_LENGTH, LIMITS, MARK, WI
 use fenstubble_reference::numbers::{InnerVertex, OuterVertex, User};
 use fenstubble_reference::sets::UserSet;
 
-use crate::compare::{compare, Call};
+use crate::compare::{compare, Call, Difference};
 use crate::memory::{Lent, Memory, TABLES};
 
 /// How many smaller cases are tried at most.
@@ -25,16 +25,22 @@ pub struct Case {
 
 impl Case {
     /// What differs between the two sides, if anything.
-    pub fn difference(&self) -> Option<String> {
+    pub fn difference(&self) -> Option<Difference> {
         compare(self.call, &self.lent).err()
     }
 
-    /// The smallest case found that still differs.
-    pub fn smallest(self) -> Case {
+    /// Whether the two sides differ with these answers.
+    pub fn differs(&self, numbers: [Option<u8>; 2]) -> bool {
+        self.difference()
+            .is_some_and(|difference| difference.numbers == numbers)
+    }
+
+    /// The smallest case found that still differs, with the same answers.
+    pub fn smallest(self, numbers: [Option<u8>; 2]) -> Case {
         let tries = Counter::new(TRIES);
         let differs = |case: &Case| {
             tries.set(tries.get().saturating_sub(1));
-            tries.get() > 0 && case.difference().is_some()
+            tries.get() > 0 && case.differs(numbers)
         };
         let plain = self.with_plain_lengths();
         let case = if differs(&plain) { plain } else { self };
@@ -104,11 +110,17 @@ impl Case {
         self.with_bytes(&Loose { book, ..loose }.bytes())
     }
 
-    /// The same call on the tables of another book, with as many rows or
-    /// bytes more or less for the answer than it needs as before.
-    pub fn with_book(&self, book: &Book) -> Case {
+    /// The same call on the tables of another book.
+    fn with_book(&self, book: &Book) -> Case {
+        self.moved(self.call, book)
+    }
+
+    /// A call of the same kind on the tables of another book, with as much
+    /// more or less for the answer than it needs as before.
+    pub fn moved(&self, call: Call, book: &Book) -> Case {
         let mut case = self.clone();
         let before = self.needed();
+        case.call = call;
         case.lent.put(book);
         let after = case.needed();
         let length = |given: usize| (given + after).saturating_sub(before);

@@ -51,10 +51,13 @@ pub enum Fault {
     ViewsSwapped,
     /// The two counts of an open are taken for one another.
     ChainsSwapped,
+    /// Something is kept between calls: every 300th with tables gets 13.
+    Every300th,
 }
 
 thread_local! {
     static FAULT: Cell<Fault> = const { Cell::new(Fault::None) };
+    static CALLS: Cell<u32> = const { Cell::new(0) };
 }
 
 /// Plants the fault, for this thread, in place of the one before.
@@ -126,6 +129,10 @@ macro_rules! with_tables {
                 outer_tokens: slice(outer_tokens, outer_tokens_len),
                 resources: slice(resources, resources_len),
             };
+            CALLS.set(CALLS.get() + 1);
+            if planted(Fault::Every300th) && CALLS.get() % 300 == 0 {
+                return 13;
+            }
             let code = $body;
             touched(code, $tables)
         }

@@ -10,7 +10,7 @@ fn books_alike() {
     let bounds = Bounds {
         seed: 1,
         first: 0,
-        count: 30_000,
+        count: 40_000,
         time: Some(Duration::from_secs(20)),
     };
     let summary = books::run(bounds).unwrap_or_else(|report| panic!("{report}"));
