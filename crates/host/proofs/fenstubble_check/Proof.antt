@@ -1,43 +1,37 @@
+-- `fenstubble_check` meets its contract. Assumes nothing.
+use native.Mathlib.Omega.{arith}
+use Rattle.host.proofs.Laws.{check-short, check-refused, check-passed}
 use borrow.Author.Needs.{needs}
 use Rattle.host.proofs.fenstubble_check.Statement.{statement}
 use Rattle.host.proofs.fenstubble_check.Tie as tie
-use Rattle.host.proofs.fenstubble_check.Reads as reads
-use Rattle.host.proofs.fenstubble_check.Lts as lts
-use Rattle.host.proofs.head_of.Reads as head-of-reads
-use Rattle.rules.proofs.refusal_number.Reads as refusal-number-reads
-use Rattle.sound.proofs.check.Reads as check-reads
 
--- src/lib.rt:47:9
 returns : tie.Need-returns
-returns c = ?
+returns c = check-short _ _ (c .if1 .taken)
 
--- src/lib.rt:49:19
 head-of-requires : tie.Need-head-of-requires
 head-of-requires c κs = search needs
 
--- src/lib.rt:49:9
 check-requires : tie.Need-check-requires
 check-requires c κs = search needs
 
--- src/lib.rt:51:21
 enum-known-k : tie.Need-enum-known-k
 enum-known-k c = search needs
 
--- src/lib.rt:51:27
 refusal-number-requires : tie.Need-refusal-number-requires
 refusal-number-requires c κs = search needs
 
--- src/lib.rt:52:27
 enum-told : tie.Need-enum-told
 enum-told c = search needs
 
--- src/lib.rt:42:1
 returns-2 : tie.Need-returns-2
-returns-2 c = ?
+returns-2 c =
+    let k = c .before .before .before .before in
+    check-refused _ _ (omega (arith, k .before .before .if1 .left)) (k .before .head-of .ensures) (k .check .ensures) (c .before .before .k .given .1) (c .refusal-number .ensures)
 
--- src/lib.rt:42:1
 returns-3 : tie.Need-returns-3
-returns-3 c = ?
+returns-3 c =
+    let k = c .before .before in
+    check-passed _ _ (omega (arith, k .before .before .if1 .left)) (k .before .head-of .ensures) (k .check .ensures) (c .enum-told .given .1)
 
 pub fenstubble-check-spec : {M : Type 1} → statement M
 fenstubble-check-spec =

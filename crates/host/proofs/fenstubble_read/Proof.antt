@@ -1,87 +1,78 @@
+-- `fenstubble_read` meets its contract. Assumes nothing.
+use native.Mathlib.Omega.{arith}
+use Rattle.rules.specs.Bytes.{Tables, tables}
+use Rattle.host.proofs.Laws.{read-short, read-refused, read-given}
 use borrow.Author.Needs.{needs}
 use Rattle.host.proofs.fenstubble_read.Statement.{statement}
 use Rattle.host.proofs.fenstubble_read.Tie as tie
-use Rattle.host.proofs.fenstubble_read.Reads as reads
-use Rattle.host.proofs.fenstubble_read.Lts as lts
-use Rattle.book.proofs.read.Reads as read-reads
-use Rattle.host.proofs.put_head.Reads as put-head-reads
-use Rattle.rules.proofs.refusal_number.Reads as refusal-number-reads
 
--- src/lib.rt:76:9
+-- the tables after the reading
+abbrev left : tie.After-read → Tables
+left c =
+    let u = c .read .last .1 in
+    tables (u .0) (u .1 .0) (u .1 .1 .0) (u .1 .1 .1 .0) (u .1 .1 .1 .1 .0)
+
 returns : tie.Need-returns
-returns c = ?
+returns c = read-short _ _ _ (c .if1 .taken)
 
--- src/lib.rt:78:9
 read-requires : tie.Need-read-requires
 read-requires c κs = search needs
 
--- src/lib.rt:80:20
 enum-known-a : tie.Need-enum-known-a
 enum-known-a c = search needs
 
--- src/lib.rt:80:26
 refusal-number-requires : tie.Need-refusal-number-requires
 refusal-number-requires c κs = search needs
 
--- src/lib.rt:81:20
 enum-known-a-2 : tie.Need-enum-known-a-2
 enum-known-a-2 c = search needs
 
--- src/lib.rt:82:13
 put-head-requires : tie.Need-put-head-requires
 put-head-requires c κs = search needs
 
--- src/lib.rt:71:1
 same-length : tie.Need-same-length
 same-length c = search needs
 
--- src/lib.rt:71:1
 same-length-2 : tie.Need-same-length-2
 same-length-2 c = search needs
 
--- src/lib.rt:71:1
 same-length-3 : tie.Need-same-length-3
 same-length-3 c = search needs
 
--- src/lib.rt:71:1
 same-length-4 : tie.Need-same-length-4
 same-length-4 c = search needs
 
--- src/lib.rt:71:1
 same-length-5 : tie.Need-same-length-5
 same-length-5 c = search needs
 
--- src/lib.rt:71:1
 returns-2 : tie.Need-returns-2
-returns-2 c = ?
+returns-2 c =
+    let r = c .before .before .before .before .before .before .before .before .before .before .before .before .before .before in
+    read-refused _ _ _ {u = left r} (omega (arith, r .before .before .before .before .before .before .if1 .left)) (r .read .ensures) (c .before .before .a .given .1) (c .refusal-number .ensures)
 
--- src/lib.rt:71:1
 same-length-6 : tie.Need-same-length-6
 same-length-6 c = search needs
 
--- src/lib.rt:71:1
 same-length-7 : tie.Need-same-length-7
 same-length-7 c = search needs
 
--- src/lib.rt:71:1
 same-length-8 : tie.Need-same-length-8
 same-length-8 c = search needs
 
--- src/lib.rt:71:1
 same-length-9 : tie.Need-same-length-9
 same-length-9 c = search needs
 
--- src/lib.rt:71:1
 same-length-10 : tie.Need-same-length-10
 same-length-10 c = search needs
 
--- src/lib.rt:71:1
 same-length-11 : tie.Need-same-length-11
 same-length-11 c = search needs
 
--- src/lib.rt:71:1
 returns-3 : tie.Need-returns-3
-returns-3 c = ?
+returns-3 c =
+    let h = c .before .before in
+    let r = h .before .before .before .before .before .before .before .before .before .before .before .before .before .before .before in
+    read-given _ _ _ {u = left r} (omega (arith, r .before .before .before .before .before .before .if1 .left)) (r .read .ensures) (h .before .before .before .a2 .given .1) (h .put-head .ensures)
 
 pub fenstubble-read-spec : {M : Type 1} → statement M
 fenstubble-read-spec =

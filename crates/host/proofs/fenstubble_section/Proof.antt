@@ -1,31 +1,35 @@
+-- `fenstubble_section` meets its contract: a start is asked only of a book that has the section. Assumes nothing.
+use native.Mathlib.Omega.{arith}
+use mathlib.Core.Path.{_≡_}
+use mathlib.Core.Bool.{true}
+use Prim.Native.Nat.{_<_}
+use Rattle.rules.specs.Bytes.{isBook}
+use Rattle.theorems.proofs.WriteLaws.{book-bytes}
+use Rattle.host.proofs.Laws.{section-passed, section-given, section-refused}
 use borrow.Author.Needs.{needs}
 use Rattle.host.proofs.fenstubble_section.Statement.{statement}
 use Rattle.host.proofs.fenstubble_section.Tie as tie
-use Rattle.host.proofs.fenstubble_section.Reads as reads
-use Rattle.host.proofs.fenstubble_section.Lts as lts
-use Rattle.book.proofs.head_in.Reads as head-in-reads
-use Rattle.book.proofs.section.Reads as section-reads
-use Rattle.book.proofs.start_of.Reads as start-of-reads
 
--- src/lib.rt:61:13
+-- the cell is 0
+passed : (c : tie.Then1) → let s = c .before .before .before .before in (isBook (s .args .bytes .now) ≡ true) × (s .args .k < 5)
+passed c = section-passed _ _ (c .before .section .ensures) (c .if1 .taken)
+
 section-requires : tie.Need-section-requires
 section-requires c κs = search needs
 
--- src/lib.rt:64:33
 head-in-requires : tie.Need-head-in-requires
-head-in-requires c κs = ?
+head-in-requires c κs = book-bytes _ (passed c .0) .long
 
--- src/lib.rt:64:18
 start-of-requires : tie.Need-start-of-requires
-start-of-requires c κs = ?
+start-of-requires c κs = omega (arith, passed (c .before) .1)
 
--- src/lib.rt:56:1
 returns : tie.Need-returns
-returns c = ?
+returns c =
+    let t = c .before .before in
+    section-given _ _ (t .before .section .ensures) (t .if1 .taken) (c .before .head-in .ensures) (c .start-of .ensures)
 
--- src/lib.rt:56:1
 returns-2 : tie.Need-returns-2
-returns-2 c = ?
+returns-2 c = section-refused _ _ (c .before .section .ensures) (c .if1 .left)
 
 pub fenstubble-section-spec : {M : Type 1} → statement M
 fenstubble-section-spec =

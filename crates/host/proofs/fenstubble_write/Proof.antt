@@ -1,51 +1,43 @@
+-- `fenstubble_write` meets its contract. Assumes nothing.
+use native.Mathlib.Omega.{arith}
+use Rattle.host.proofs.Laws.{write-short, write-refused, write-given}
 use borrow.Author.Needs.{needs}
 use Rattle.host.proofs.fenstubble_write.Statement.{statement}
 use Rattle.host.proofs.fenstubble_write.Tie as tie
-use Rattle.host.proofs.fenstubble_write.Reads as reads
-use Rattle.host.proofs.fenstubble_write.Lts as lts
-use Rattle.book.proofs.write.Reads as write-reads
-use Rattle.host.proofs.head_of.Reads as head-of-reads
-use Rattle.rules.proofs.refusal_number.Reads as refusal-number-reads
 
--- src/lib.rt:94:9
 returns : tie.Need-returns
-returns c = ?
+returns c = write-short _ _ _ (c .if1 .taken)
 
--- src/lib.rt:96:25
 head-of-requires : tie.Need-head-of-requires
 head-of-requires c κs = search needs
 
--- src/lib.rt:96:9
 write-requires : tie.Need-write-requires
 write-requires c κs = search needs
 
--- src/lib.rt:98:20
 enum-known-a : tie.Need-enum-known-a
 enum-known-a c = search needs
 
--- src/lib.rt:98:26
 refusal-number-requires : tie.Need-refusal-number-requires
 refusal-number-requires c κs = search needs
 
--- src/lib.rt:99:23
 enum-known-a-2 : tie.Need-enum-known-a-2
 enum-known-a-2 c = search needs
 
--- src/lib.rt:88:1
 same-length : tie.Need-same-length
 same-length c = search needs
 
--- src/lib.rt:88:1
 returns-2 : tie.Need-returns-2
-returns-2 c = ?
+returns-2 c =
+    let w = c .before .before .before .before .before .before in
+    write-refused _ _ _ (omega (arith, w .before .before .before .if1 .left)) (w .before .before .head-of .ensures) (w .write .ensures) (c .before .before .a .given .1) (c .refusal-number .ensures)
 
--- src/lib.rt:88:1
 same-length-2 : tie.Need-same-length-2
 same-length-2 c = search needs
 
--- src/lib.rt:88:1
 returns-3 : tie.Need-returns-3
-returns-3 c = ?
+returns-3 c =
+    let w = c .before .before .before .before .before in
+    write-given _ _ _ (omega (arith, w .before .before .before .if1 .left)) (w .before .before .head-of .ensures) (w .write .ensures) (c .before .a2 .given .1)
 
 pub fenstubble-write-spec : {M : Type 1} → statement M
 fenstubble-write-spec =
