@@ -1,0 +1,36 @@
+-- `fenstubble_section` meets its contract: a start is asked only of a book that has the section. Assumes nothing.
+use native.Mathlib.Omega.{arith}
+use mathlib.Core.Path.{_≡_}
+use mathlib.Core.Bool.{true}
+use Prim.Native.Nat.{_<_}
+use Rattle.rules.specs.Bytes.{isBook}
+use Rattle.theorems.proofs.WriteLaws.{book-bytes}
+use Rattle.host.proofs.Laws.{section-passed, section-given, section-refused}
+use borrow.Author.Needs.{needs}
+use Rattle.host.proofs.fenstubble_section.Statement.{statement}
+use Rattle.host.proofs.fenstubble_section.Tie as tie
+
+-- the cell is 0
+passed : (c : tie.Then1) → let s = c .before .before .before .before in (isBook (s .args .bytes .now) ≡ true) × (s .args .k < 5)
+passed c = section-passed _ _ (c .before .section .ensures) (c .if1 .taken)
+
+section-requires : tie.Need-section-requires
+section-requires c κs = search needs
+
+head-in-requires : tie.Need-head-in-requires
+head-in-requires c κs = book-bytes _ (passed c .0) .long
+
+start-of-requires : tie.Need-start-of-requires
+start-of-requires c κs = omega (arith, passed (c .before) .1)
+
+returns : tie.Need-returns
+returns c =
+    let t = c .before .before in
+    section-given _ _ (t .before .section .ensures) (t .if1 .taken) (c .before .head-in .ensures) (c .start-of .ensures)
+
+returns-2 : tie.Need-returns-2
+returns-2 c = section-refused _ _ (c .before .section .ensures) (c .if1 .left)
+
+pub fenstubble-section-spec : {M : Type 1} → statement M
+fenstubble-section-spec =
+    tie.close (tie.spec section-requires head-in-requires start-of-requires returns returns-2)

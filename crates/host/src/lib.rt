@@ -1,0 +1,151 @@
+// The C interface (include/fenstubble.h): thin functions over numbers and slices. A head is 7 numbers; the result is 0 or the refusal's number.
+// The five tables are iv, it, ov, ot, rs: inner vertices and tokens, outer vertices and tokens, resources.
+use rules::Head;
+use rules::InnerTokens;
+use rules::InnerVertices;
+use rules::Joined;
+use rules::Loaded;
+use rules::Mode;
+use rules::OuterTokens;
+use rules::OuterVertices;
+use rules::Resources;
+use rules::Stored;
+use rules::refusal_number;
+use sound::Checked;
+use sound::check;
+ghost use mathlib.Core.Path.{_≡_};
+ghost use Prim.Native.Nat.{_≤_};
+ghost use lib.ListN.{length};
+ghost use Rattle.rows.specs.Number.{stored};
+ghost use Rattle.rules.specs.Bytes.{tables};
+ghost use Rattle.host.specs.Answers.{headFrom, headNumbers, checkAnswer, sectionAnswer, readAnswer, writeAnswer, answered, loadedAs, writtenAs};
+
+// The head that 7 numbers give.
+fn head_of(head: &[u16]) -> Head
+    requires { ⌜ 7 ≤ length (now head) ⌝ }
+    ensures { λ r. ⌜ r ≡ headFrom (now (head .entry)) ⌝ }
+{
+    let mode = Mode(head[0]);
+    let users = Joined(head[1]);
+    let resources = Resources(head[2]);
+    let inner_vertices = InnerVertices(head[3]);
+    let inner_tokens = InnerTokens(head[4]);
+    let outer_vertices = OuterVertices(head[5]);
+    let outer_tokens = OuterTokens(head[6]);
+    Head {
+        mode,
+        users,
+        resources,
+        inner_vertices,
+        inner_tokens,
+        outer_vertices,
+        outer_tokens,
+    }
+}
+
+// A head into 7 numbers.
+fn put_head(head: &mut [u16], h: Head)
+    requires { ⌜ 7 ≤ length (now head) ⌝ }
+    ensures { λ _. ⌜ now (head .exit) ≡ stored 0 (headNumbers h) (now (head .entry)) ⌝ }
+{
+    head[0] = h.mode.0;
+    head[1] = h.users.0;
+    head[2] = h.resources.0;
+    head[3] = h.inner_vertices.0;
+    head[4] = h.inner_tokens.0;
+    head[5] = h.outer_vertices.0;
+    head[6] = h.outer_tokens.0;
+}
+
+#[no_mangle]
+pub extern "C" fn fenstubble_check(
+    head: &[u16],
+    iv: &[u8],
+    it: &[u8],
+    ov: &[u8],
+    ot: &[u8],
+    rs: &[u8],
+) -> u16
+    ensures { λ r. ⌜ r ≡ checkAnswer (now (head .entry)) (tables (now (iv .entry)) (now (it .entry)) (now (ov .entry)) (now (ot .entry)) (now (rs .entry))) ⌝ }
+{
+    if head.len() < 7 {
+        return 13;
+    }
+    let k = check(head_of(head), iv, it, ov, ot, rs);
+    match k {
+        Checked::No(n) => refusal_number(n),
+        Checked::Sound => 0,
+    }
+}
+
+#[no_mangle]
+pub extern "C" fn fenstubble_section(
+    bytes: &[u8],
+    k: usize,
+    start: &mut usize,
+    size: &mut usize,
+) -> u16
+    ensures { λ r. ⌜ answered r (now (start .exit)) (now (size .exit)) ≡ sectionAnswer (now (bytes .entry)) k ⌝ }
+{
+    let mut cell: u16 = 0;
+    let n = book::section(bytes, k, &mut cell).len();
+    *size = n;
+    if cell == 0 {
+        *start = book::start_of(book::head_in(bytes), k);
+    } else {
+        *start = 0;
+    }
+    cell
+}
+
+#[no_mangle]
+pub extern "C" fn fenstubble_read(
+    bytes: &[u8],
+    head: &mut [u16],
+    iv: &mut [u8],
+    it: &mut [u8],
+    ov: &mut [u8],
+    ot: &mut [u8],
+    rs: &mut [u8],
+) -> u16
+    ensures { λ r. ⌜ loadedAs r (now (head .exit)) (tables (now (iv .exit)) (now (it .exit)) (now (ov .exit)) (now (ot .exit)) (now (rs .exit))) ≡ readAnswer (now (bytes .entry)) (now (head .entry)) (tables (now (iv .entry)) (now (it .entry)) (now (ov .entry)) (now (ot .entry)) (now (rs .entry))) ⌝ }
+{
+    if head.len() < 7 {
+        return 13;
+    }
+    let a = book::read(bytes, iv, it, ov, ot, rs);
+    match a {
+        Loaded::No(n) => refusal_number(n),
+        Loaded::Is(h) => {
+            put_head(head, h);
+            0
+        }
+    }
+}
+
+#[no_mangle]
+pub extern "C" fn fenstubble_write(
+    head: &[u16],
+    iv: &[u8],
+    it: &[u8],
+    ov: &[u8],
+    ot: &[u8],
+    rs: &[u8],
+    buffer: &mut [u8],
+    size: &mut usize,
+) -> u16
+    ensures { λ r. ⌜ writtenAs r (now (buffer .exit)) (now (size .exit)) ≡ writeAnswer (now (head .entry)) (tables (now (iv .entry)) (now (it .entry)) (now (ov .entry)) (now (ot .entry)) (now (rs .entry))) (now (buffer .entry)) ⌝ }
+{
+    *size = 0;
+    if head.len() < 7 {
+        return 13;
+    }
+    let a = book::write(head_of(head), iv, it, ov, ot, rs, buffer);
+    match a {
+        Stored::No(n) => refusal_number(n),
+        Stored::Bytes(n) => {
+            *size = n;
+            0
+        }
+    }
+}

@@ -1,0 +1,532 @@
+//! Check, section, read and write, on byte strings and on tables.
+
+use std::fmt;
+
+use fenstubble_reference::book::{Book, Mode, SoundBook};
+use fenstubble_reference::bytes::{self, HEAD_LENGTH, LIMITS, WIDTHS};
+use fenstubble_reference::generate::{self, Random, Shape};
+use fenstubble_reference::sets::UserSet;
+use fenstubble_reference::sound::{broken_rules, Rule};
+
+use crate::compare::{Call, Tally};
+use crate::limits;
+use crate::memory::{Filler, Lent, Memory};
+use crate::report::{random_of, Bounds, Report, Session};
+
+/// What was compared.
+#[derive(Clone, Debug, Default)]
+pub struct Summary {
+    /// Byte strings.
+    pub strings: usize,
+    /// Byte strings that are a sound book.
+    pub sound: usize,
+    /// Damaged books that break one rule alone, by the rule.
+    pub alone: [usize; 8],
+    /// The calls and their answers.
+    pub tally: Tally,
+}
+
+impl fmt::Display for Summary {
+    fn fmt(&self, f: &mut fmt::Formatter<'_>) -> fmt::Result {
+        writeln!(
+            f,
+            "{} byte strings, {} of them sound books; {} calls: no difference",
+            self.strings,
+            self.sound,
+            self.tally.calls()
+        )?;
+        write!(f, "{}", self.tally)?;
+        write!(f, "books that break one rule alone:")?;
+        for (rule, count) in Rule::ALL.iter().zip(self.alone) {
+            write!(f, " {rule:?} {count}")?;
+        }
+        writeln!(f)
+    }
+}
+
+/// Section numbers that are those of no section, besides 5 and 6.
+const NO_SECTIONS: [usize; 6] = [255, 256, 260, 65535, 65536, usize::MAX];
+
+/// Bytes above which not every section of a string is asked for.
+const LARGE: usize = 4096;
+
+type Outcome = Result<(), Box<Report>>;
+
+/// The cases that are the same for every seed.
+const FIXED: [fn(&mut Books, &mut Random) -> Outcome; 4] = [
+    Books::short_strings,
+    Books::every_head_byte,
+    Books::around_the_limits,
+    Books::every_head_number,
+];
+
+/// Compares about so many byte strings, and tables along with them.
+pub fn run(bounds: Bounds) -> Result<Summary, Box<Report>> {
+    let mut books = Books {
+        session: Session::new("books", bounds),
+        summary: Summary::default(),
+    };
+    for case in bounds.first.. {
+        books.session.case = case;
+        let random = &mut random_of(bounds.seed, case);
+        match FIXED.get(usize::try_from(case).unwrap_or(usize::MAX)) {
+            Some(fixed) => fixed(&mut books, random)?,
+            None if books.session.over() => break,
+            None => books.around_a_book(random)?,
+        }
+        if books.summary.strings >= bounds.count {
+            break;
+        }
+    }
+    Ok(Summary {
+        tally: books.session.tally,
+        ..books.summary
+    })
+}
+
+struct Books {
+    session: Session,
+    summary: Summary,
+}
+
+impl Books {
+    /// All calls on one byte string.
+    fn string(&mut self, random: &mut Random, bytes: &[u8]) -> Outcome {
+        self.summary.strings += 1;
+
+        let lent = Lent::bytes(bytes);
+        let mut sections: Vec<usize> = (0..=6).collect();
+        sections.extend(random.pick(&NO_SECTIONS));
+        if bytes.len() > LARGE && random.chance(7, 8) {
+            random.shuffle(&mut sections);
+            sections.truncate(2);
+        }
+        for k in sections {
+            self.session.compare(Call::Section(k), &lent)?;
+        }
+
+        let mut lent = Lent::blank(Filler::any(random));
+        if random.chance(1, 4) {
+            longer(random, &mut lent);
+        }
+        lent.book = Memory::of(bytes);
+        let read = self.session.compare(Call::Read, &lent)?;
+        if random.chance(1, 8) {
+            shorter(random, &mut lent);
+            self.session.compare(Call::Read, &lent)?;
+        }
+        if read.answer.is_ok() {
+            self.summary.sound += 1;
+            let mut lent = read.lent;
+            lent.book = Memory::default();
+            self.tables(random, &lent, bytes.len())?;
+        }
+        Ok(())
+    }
+
+    /// Check and write on head and tables; a book of that length may be
+    /// there.
+    fn tables(&mut self, random: &mut Random, lent: &Lent, length: usize) -> Outcome {
+        self.session.compare(Call::Check, lent)?;
+        let lengths = [
+            length,
+            length.saturating_sub(1),
+            length + 1 + random.below(40),
+            random.below(length),
+        ];
+        let some = if length > LARGE { 2 } else { lengths.len() };
+        for length in &lengths[..some] {
+            let mut lent = lent.clone();
+            lent.buffer = Memory::of(&Filler::any(random).bytes(*length));
+            self.session.compare(Call::Write, &lent)?;
+        }
+        Ok(())
+    }
+
+    /// Check and write on the tables of a book, sound or not.
+    fn tables_of(&mut self, random: &mut Random, book: &Book) -> Outcome {
+        let lent = Lent::of(book, Filler::any(random));
+        self.tables(random, &lent, bytes::length(&book.head()))
+    }
+
+    /// A book as bytes and as tables.
+    fn book(&mut self, random: &mut Random, book: &Book) -> Outcome {
+        self.string(random, &bytes::write(book))?;
+        self.tables_of(random, book)
+    }
+
+    /// Strings of 0 to 18 bytes.
+    fn short_strings(&mut self, random: &mut Random) -> Outcome {
+        let whole = bytes::write(&sample(Mode::Delta));
+        for mode in [Mode::Delta, Mode::Full] {
+            let mut empty = bytes::write(&Book::empty(mode));
+            empty.push(0);
+            for length in 0..=HEAD_LENGTH + 1 {
+                self.string(random, &empty[..length])?;
+                self.string(random, &whole[..length])?;
+                self.string(random, &vec![0; length])?;
+                self.string(random, &vec![0xFF; length])?;
+            }
+        }
+        for length in HEAD_LENGTH..=whole.len() {
+            self.string(random, &whole[..length])?;
+        }
+        Ok(())
+    }
+
+    /// Every value of every byte of the head, and pairs of values of the
+    /// version.
+    fn every_head_byte(&mut self, random: &mut Random) -> Outcome {
+        for mode in [Mode::Delta, Mode::Full] {
+            let whole = bytes::write(&sample(mode));
+            for at in 0..HEAD_LENGTH {
+                for value in 0..=255 {
+                    let mut bytes = whole.clone();
+                    bytes[at] = value;
+                    self.string(random, &bytes)?;
+                }
+            }
+            for version in [[0, 0], [2, 0], [1, 1], [0, 1], [255, 255], [1, 255]] {
+                let mut bytes = whole.clone();
+                bytes[3..5].copy_from_slice(&version);
+                self.string(random, &bytes)?;
+            }
+        }
+        Ok(())
+    }
+
+    /// Each count at, one below and one past its limit: in books that keep
+    /// all else, and in heads alone, also with the length they ask for.
+    fn around_the_limits(&mut self, random: &mut Random) -> Outcome {
+        for mode in [Mode::Full, Mode::Delta] {
+            for (counts, _) in limits::around() {
+                self.book(random, &limits::book(mode, &counts))?;
+            }
+        }
+        for base in [sample(Mode::Delta), sample(Mode::Full)] {
+            for field in 0..6 {
+                for value in head_values(&base, field) {
+                    let (alone, longer) = with_count(&bytes::write(&base), field, value);
+                    self.string(random, &alone)?;
+                    self.string(random, &longer)?;
+                }
+            }
+        }
+        Ok(())
+    }
+
+    /// Each number of the head of tables at its edges, and heads and tables
+    /// of other lengths.
+    fn every_head_number(&mut self, random: &mut Random) -> Outcome {
+        for mode in [Mode::Delta, Mode::Full] {
+            let book = sample(mode);
+            let length = bytes::length(&book.head());
+            for at in 0..7 {
+                for value in (0..=70).chain([
+                    255, 256, 257, 319, 320, 321, 447, 448, 449, 450, 451, 452, 511, 512, 513,
+                    4095, 4096, 4097, 32767, 32768, 65280, 65534, 65535,
+                ]) {
+                    let mut lent = Lent::of(&book, Filler::any(random));
+                    lent.head.lend()[at] = value;
+                    self.tables(random, &lent, length)?;
+                }
+            }
+            for numbers in 0..10 {
+                let mut lent = Lent::of(&book, Filler::Same(0xA1));
+                let mut head = lent.head.content().to_vec();
+                head.resize(numbers, 0x0101);
+                lent.head = Memory::of(&head);
+                self.tables(random, &lent, length)?;
+                self.read_into(&lent, &bytes::write(&book))?;
+            }
+            for k in 0..5 {
+                let most = LIMITS[k] * WIDTHS[k];
+                for length_of_table in [0, 1, most - WIDTHS[k], most - 1, most, most + 1] {
+                    let mut lent = Lent::of(&book, Filler::Same(0));
+                    resize(&mut lent.tables[k], length_of_table);
+                    self.tables(random, &lent, length)?;
+                    self.read_into(&lent, &bytes::write(&book))?;
+                }
+            }
+        }
+        Ok(())
+    }
+
+    /// Reads the bytes, and some that are no book, into what is lent.
+    fn read_into(&mut self, lent: &Lent, bytes: &[u8]) -> Outcome {
+        for bytes in [bytes, &bytes[1..], &[]] {
+            let mut lent = lent.clone();
+            lent.book = Memory::of(bytes);
+            self.session.compare(Call::Read, &lent)?;
+        }
+        Ok(())
+    }
+
+    /// A random sound book and much that is wrong with it.
+    fn around_a_book(&mut self, random: &mut Random) -> Outcome {
+        let book = some_book(random);
+        let whole = bytes::write(&book);
+        self.book(random, &book)?;
+
+        // One byte less, one more.
+        self.string(random, &whole[..whole.len() - 1])?;
+        let mut longer = whole.clone();
+        longer.push(random.next() as u8);
+        self.string(random, &longer)?;
+
+        // A rule broken.
+        for _ in 0..4 {
+            let damaged = generate::damage(random, &book);
+            if let [rule] = broken_rules(&damaged)[..] {
+                self.summary.alone[rule as usize] += 1;
+            }
+            self.book(random, &damaged)?;
+        }
+
+        // Any bytes changed.
+        for _ in 0..6 {
+            let damaged = generate::damage_bytes(random, &whole);
+            self.string(random, &damaged)?;
+        }
+        let twice = generate::damage(random, &book);
+        let twice = generate::damage_bytes(random, &bytes::write(&twice));
+        self.string(random, &twice)?;
+
+        // A count at some edge.
+        let field = random.below(6);
+        if let Some(value) = random.pick(&head_values(&book, field)) {
+            let (alone, longer) = with_count(&whole, field, value);
+            self.string(random, &alone)?;
+            self.string(random, &longer)?;
+        }
+
+        self.around_tables(random, &book)
+    }
+
+    /// The book's tables with bytes changed before and past the counts, and
+    /// tables and heads of other lengths.
+    fn around_tables(&mut self, random: &mut Random, book: &Book) -> Outcome {
+        let length = bytes::length(&book.head());
+        let counts = book.head().counts();
+        let clean = Lent::of(book, Filler::any(random));
+
+        // Past the counts: it must not matter.
+        let mut lent = clean.clone();
+        for (k, count) in counts.iter().enumerate() {
+            let used = count * WIDTHS[k];
+            let unused = &mut lent.tables[k].lend()[used..];
+            for _ in 0..8 {
+                let at = random.below(unused.len());
+                if let Some(byte) = unused.get_mut(at) {
+                    *byte = random.next() as u8;
+                }
+            }
+            if let Some(first) = unused.first_mut() {
+                *first ^= 0x80;
+            }
+        }
+        self.tables(random, &lent, length)?;
+
+        // Before them: it mostly does.
+        for _ in 0..2 {
+            let mut lent = clean.clone();
+            let k = random.below(5);
+            let at = random.below(counts[k] * WIDTHS[k]);
+            lent.tables[k].lend()[at] ^= 1 << random.below(8);
+            self.tables(random, &lent, length)?;
+        }
+
+        // A number of the head: one more or less, or any.
+        let mut lent = clean.clone();
+        let number = &mut lent.head.lend()[random.below(7)];
+        *number = match random.below(3) {
+            0 => number.wrapping_add(1),
+            1 => number.wrapping_sub(1),
+            _ => random.next() as u16,
+        };
+        self.tables(random, &lent, length)?;
+
+        // Something too short, for a sound book and for none.
+        let mut lent = clean;
+        shorter(random, &mut lent);
+        self.tables(random, &lent, length)?;
+        let mut lent = Lent::of(&generate::damage(random, book), Filler::any(random));
+        shorter(random, &mut lent);
+        self.tables(random, &lent, length)
+    }
+}
+
+/// Three users, two folders, both layers in use: P1 to P5, in that mode.
+pub fn sample(mode: Mode) -> Book {
+    use fenstubble_reference::numbers::{Resource, User};
+    let mut book = SoundBook::empty(mode);
+    let all = usize::MAX;
+    let done = (0..3)
+        .try_for_each(|_| book.join(all).map(drop))
+        .and_then(|()| book.insert(UserSet(3), all))
+        .and_then(|_| book.insert(UserSet(3), all))
+        .and_then(|_| book.grant(Resource(0), User(2), all))
+        .and_then(|_| book.revoke(Resource(0), User(1), all));
+    debug_assert!(done.is_ok());
+    book.into_book()
+}
+
+/// A random sound book: mostly small, and often one that no run of requests
+/// reaches.
+pub fn some_book(random: &mut Random) -> Book {
+    let shape = match random.below(64) {
+        0 => Shape::full(random),
+        1..=3 => Shape::wide(random),
+        4..=19 => return reached_book(random),
+        _ => Shape::small(random),
+    };
+    generate::book(random, &shape)
+}
+
+/// A book that a run of requests reaches.
+fn reached_book(random: &mut Random) -> Book {
+    let mode = if random.chance(1, 2) {
+        Mode::Delta
+    } else {
+        Mode::Full
+    };
+    let mut book = SoundBook::empty(mode);
+    let users = random.between(1, 8);
+    for _ in 0..random.below(60) {
+        let request = generate::request(random, book.book(), users);
+        // A refused one changes nothing.
+        let _ = book.answer(&request, usize::MAX);
+    }
+    book.into_book()
+}
+
+/// Values at the edges of a count of the head: users, resources, inner
+/// vertices, inner tokens, outer vertices, outer tokens.
+fn head_values(book: &Book, field: usize) -> Vec<u16> {
+    let limit = match field {
+        0 => 64,
+        1 => 256,
+        2 => book.users + book.head().resources,
+        3 | 5 => 4096,
+        _ => book.users + 448,
+    };
+    let own = book.head();
+    let now = [
+        own.users,
+        own.resources,
+        own.inner_vertices,
+        own.inner_tokens,
+        own.outer_vertices,
+        own.outer_tokens,
+    ][field];
+    let mut values = vec![0, 1, limit, limit + 1, now + 1, 255];
+    values.extend(
+        [limit.checked_sub(1), now.checked_sub(1)]
+            .into_iter()
+            .flatten(),
+    );
+    if field > 0 {
+        values.extend([256, 320, 321, 512, 513, 32768, 65535]);
+    }
+    values
+}
+
+/// The bytes with that count in the head, alone and with rows cut off or
+/// added, as zeros, so that the length is the one it asks for.
+fn with_count(whole: &[u8], field: usize, value: u16) -> (Vec<u8>, Vec<u8>) {
+    let mut alone = whole.to_vec();
+    if field == 0 {
+        alone[6] = value as u8;
+        return (alone.clone(), alone);
+    }
+    let at = 5 + 2 * field;
+    let before = u16::from_le_bytes([whole[at], whole[at + 1]]);
+    alone[at..at + 2].copy_from_slice(&value.to_le_bytes());
+    // Resources stand first in the head and last among the sections.
+    let section = (field + 3) % 5;
+    let width = WIDTHS[section];
+    let mut end = HEAD_LENGTH;
+    for (k, width) in WIDTHS.iter().enumerate().take(section + 1) {
+        let field = (k + 1) % 5 + 1;
+        let at = 5 + 2 * field;
+        end += usize::from(u16::from_le_bytes([whole[at], whole[at + 1]])) * width;
+    }
+    let mut longer = alone.clone();
+    if value < before {
+        let gone = usize::from(before - value) * width;
+        longer.drain(end - gone..end);
+    } else {
+        let more = usize::from(value - before) * width;
+        longer.splice(end..end, std::iter::repeat_n(0, more));
+    }
+    (alone, longer)
+}
+
+/// Makes one table a byte or more too short, or the head a number.
+pub fn shorter(random: &mut Random, lent: &mut Lent) {
+    let k = random.below(6);
+    if k == 5 {
+        let numbers = if random.chance(2, 3) {
+            6
+        } else {
+            random.below(7)
+        };
+        lent.head = Memory::of(&lent.head.content()[..numbers]);
+        return;
+    }
+    let most = LIMITS[k] * WIDTHS[k];
+    let length = match random.below(4) {
+        0 | 1 => most - 1,
+        2 => most - WIDTHS[k],
+        _ => random.below(most),
+    };
+    resize(&mut lent.tables[k], length);
+}
+
+/// Makes some tables and perhaps the head longer than they have to be.
+pub fn longer(random: &mut Random, lent: &mut Lent) {
+    for k in 0..5 {
+        let more = random.below(3) * random.below(40);
+        let length = lent.tables[k].len() + more;
+        resize(&mut lent.tables[k], length);
+    }
+    let mut head = lent.head.content().to_vec();
+    head.resize(7 + random.below(4), 0xB2B2);
+    lent.head = Memory::of(&head);
+}
+
+/// A table with that length; what is new holds one byte.
+pub fn resize(table: &mut Memory<u8>, length: usize) {
+    let mut content = table.content().to_vec();
+    content.resize(length, 0xB2);
+    *table = Memory::of(&content);
+}
+
+#[cfg(test)]
+mod tests {
+    use super::*;
+
+    #[test]
+    fn counts_in_place() {
+        let base = sample(Mode::Delta);
+        let whole = bytes::write(&base);
+        assert_eq!(base.head().counts(), [4, 3, 5, 4, 2]);
+        // A count more or less, with its length: only the count's own
+        // section grows or shrinks, by zeros or from its end.
+        for field in 1..6 {
+            let section = (field + 3) % 5;
+            for value in 0..9 {
+                let (alone, longer) = with_count(&whole, field, value);
+                assert_eq!(alone.len(), whole.len());
+                let mut counts = base.head().counts();
+                counts[section] = usize::from(value);
+                let length: usize = (0..5).map(|k| counts[k] * WIDTHS[k]).sum();
+                assert_eq!(longer.len(), HEAD_LENGTH + length, "{field} {value}");
+                let same = base.head().counts()[section] == usize::from(value);
+                assert_eq!(longer == whole, same);
+            }
+        }
+        // One resource less is still a book.
+        assert!(bytes::read(&with_count(&whole, 1, 1).1).is_ok());
+    }
+}

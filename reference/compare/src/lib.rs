@@ -1,0 +1,36 @@
+//! Compares the engine's static library with the model in `reference/`: the
+//! same call on copies of the same lent memory, then the answer, the cells
+//! and every byte of what was lent, with canaries around each lent stretch.
+//!
+//! | module | holds |
+//! |---|---|
+//! | [`side`] | the calls, as both sides have them; what a library may answer |
+//! | [`engine`] | the C interface and safe functions over it |
+//! | [`model`] | the reference program's lent face in the same shape |
+//! | [`limits`] | books at, below and past each limit |
+//! | [`memory`] | lent stretches with canaries |
+//! | [`compare`] | one call on both sides; what differs; tallies |
+//! | [`shrink`] | smaller cases that still differ |
+//! | [`report`] | a difference with its seed and smallest case; bounded runs |
+//! | [`books`] | check, section, read and write |
+//! | `requests` | join, insert, grant, revoke, view and open (feature `requests`) |
+//! | [`command`] | the arguments of the programs |
+//! | `standin` | a stand-in for the library, with faults (feature `self-test`) |
+
+#![deny(unsafe_code)]
+#![warn(missing_docs)]
+
+pub mod books;
+pub mod command;
+pub mod compare;
+pub mod engine;
+pub mod limits;
+pub mod memory;
+pub mod model;
+pub mod report;
+#[cfg(feature = "requests")]
+pub mod requests;
+pub mod shrink;
+pub mod side;
+#[cfg(feature = "self-test")]
+pub mod standin;

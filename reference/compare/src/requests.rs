@@ -1,0 +1,731 @@
+//! Join, insert, grant, revoke, view and open: runs of requests in which both
+//! sides go on from the same state, and single ones on tables that are no
+//! sound book.
+
+use std::fmt;
+
+use fenstubble_reference::book::{Book, Mode, SoundBook, MAX_OUTER_GROUPS};
+use fenstubble_reference::bytes::{LIMITS, WIDTHS};
+use fenstubble_reference::check::smallest;
+use fenstubble_reference::generate::{self, Random, Shape};
+use fenstubble_reference::numbers::{Resource, User};
+use fenstubble_reference::requests::{List, Request};
+use fenstubble_reference::sets::UserSet;
+
+use crate::books::{longer, resize, sample, shorter, some_book};
+use crate::compare::{Call, Difference, Done, Given, Tally};
+use crate::limits::{self, Counts};
+use crate::memory::{Filler, Lent, Memory};
+use crate::report::{random_of, Bounds, Report, Session};
+use crate::shrink::Case;
+
+/// What was compared.
+#[derive(Clone, Debug, Default)]
+pub struct Summary {
+    /// Runs and single requests, each on tables of its own.
+    pub worlds: usize,
+    /// The requests and their answers.
+    pub tally: Tally,
+    /// Most orders of one request.
+    pub most_orders: u16,
+    /// Longest chains of one open, inner and outer.
+    pub longest: [u16; 2],
+}
+
+impl fmt::Display for Summary {
+    fn fmt(&self, f: &mut fmt::Formatter<'_>) -> fmt::Result {
+        writeln!(
+            f,
+            "{} requests in {} worlds: no difference",
+            self.tally.calls(),
+            self.worlds
+        )?;
+        write!(f, "{}", self.tally)?;
+        writeln!(
+            f,
+            "most orders of one request {}, longest chains {} inner and {} outer rows",
+            self.most_orders, self.longest[0], self.longest[1]
+        )
+    }
+}
+
+type Outcome = Result<(), Box<Report>>;
+
+/// The cases that are the same for every seed, but for the lists lent and
+/// the random requests at their ends.
+const FIXED: [fn(&mut Requests, &mut Random) -> Outcome; 10] = [
+    Requests::edges,
+    Requests::other_lengths,
+    Requests::users_full,
+    Requests::resources_full,
+    Requests::seven,
+    Requests::eight,
+    Requests::nine,
+    Requests::around_the_limits,
+    Requests::long_chains,
+    Requests::many_neighbours,
+];
+
+/// Compares about so many requests.
+pub fn run(bounds: Bounds) -> Result<Summary, Box<Report>> {
+    let mut requests = Requests {
+        session: Session::new("requests", bounds),
+        summary: Summary::default(),
+    };
+    for case in bounds.first.. {
+        requests.session.case = case;
+        let random = &mut random_of(bounds.seed, case);
+        match FIXED.get(usize::try_from(case).unwrap_or(usize::MAX)) {
+            Some(fixed) => fixed(&mut requests, random)?,
+            None if requests.session.over() => break,
+            None => requests.any_world(random)?,
+        }
+        if requests.session.tally.calls() >= bounds.count {
+            break;
+        }
+    }
+    Ok(Summary {
+        tally: requests.session.tally,
+        ..requests.summary
+    })
+}
+
+/// A sound book, the same in lent tables, and how it came about.
+struct World {
+    start: Book,
+    /// The accepted requests since.
+    script: Vec<Request>,
+    book: SoundBook,
+    /// Head and tables.
+    lent: Lent,
+    filler: Filler,
+}
+
+/// Numbers at which a width or a limit ends.
+const NUMBERS: [u16; 14] = [
+    0, 1, 62, 63, 64, 65, 254, 255, 256, 257, 32767, 32768, 65534, 65535,
+];
+
+struct Requests {
+    session: Session,
+    summary: Summary,
+}
+
+impl Requests {
+    /// A world that starts from a sound book.
+    fn world(&mut self, random: &mut Random, book: SoundBook) -> World {
+        self.summary.worlds += 1;
+        let filler = Filler::any(random);
+        let mut lent = Lent::of(book.book(), filler);
+        if random.chance(1, 4) {
+            longer(random, &mut lent);
+        }
+        World {
+            start: book.book().clone(),
+            script: Vec::new(),
+            book,
+            lent,
+            filler,
+        }
+    }
+
+    /// The call with a list of so many numbers; both sides go on from what it
+    /// leaves.
+    fn ask(&mut self, world: &mut World, call: Call, numbers: usize) -> Result<Done, Box<Report>> {
+        world.lent.list = Memory::of(&world.filler.numbers(numbers));
+        let done = self
+            .session
+            .attempt(call, &world.lent)
+            .map_err(|found| self.shrunk(world, call, found))?;
+        match done.answer {
+            Ok(Given::Orders(rows)) => {
+                self.summary.most_orders = self.summary.most_orders.max(rows);
+            }
+            Ok(Given::Chains(inner, outer)) => {
+                let [a, b] = self.summary.longest;
+                self.summary.longest = [a.max(inner), b.max(outer)];
+            }
+            _ => {}
+        }
+        world.lent.clone_from(&done.lent);
+        Ok(done)
+    }
+
+    /// The call with lists that are too short for its answer, sometimes, and
+    /// then with one that is not.
+    fn step(&mut self, world: &mut World, random: &mut Random, call: Call) -> Outcome {
+        let Some(request) = request_of(call) else {
+            return self.ask(world, call, 0).map(drop);
+        };
+        let mut after = world.book.clone();
+        let row = if matches!(call, Call::Open(..)) { 1 } else { 3 };
+        let answer = after.answer(&request, usize::MAX);
+        let needed = answer.map_or(0, |answer| answer.count() * row);
+        if needed > 0 && random.chance(1, 3) {
+            let short = match random.below(4) {
+                0 | 1 => needed - row,
+                2 => needed - 1,
+                _ => random.below(needed),
+            };
+            self.ask(world, call, short)?;
+        }
+        let more = match random.below(4) {
+            0 | 1 => 0,
+            2 => random.between(1, 9),
+            _ => 400,
+        };
+        let done = self.ask(world, call, needed + more)?;
+        if matches!(done.answer, Ok(Given::Orders(_))) {
+            world.book = after;
+            world.script.push(request);
+        }
+        Ok(())
+    }
+
+    /// So many random requests, in a world where no more than so many join.
+    fn steps(
+        &mut self,
+        world: &mut World,
+        random: &mut Random,
+        count: usize,
+        most_users: usize,
+    ) -> Outcome {
+        for _ in 0..count {
+            let call = some_call(random, world.book.book(), most_users);
+            self.step(world, random, call)?;
+        }
+        Ok(())
+    }
+
+    /// The report of a difference: from the empty book with as few requests
+    /// before it as found, from any other start with the smallest book found.
+    fn shrunk(&self, world: &World, call: Call, found: Difference) -> Box<Report> {
+        let numbers = found.numbers;
+        let lent = world.lent.clone();
+        let case = Case { call, lent };
+        let mut script = world.script.clone();
+        script.push(carried(call));
+        if !case.differs(numbers) {
+            let before = told(&world.start, &script);
+            return self.session.report(call, found, &case, before);
+        }
+        let at_end = |script: &[Request]| {
+            let (last, before) = script.split_last()?;
+            let mut book = SoundBook::new(world.start.clone()).ok()?;
+            for request in before {
+                // A refused one changes nothing.
+                let _ = book.answer(request, usize::MAX);
+            }
+            Some(case.moved(like(call, last), book.book()))
+        };
+        let differs = |script: &[Request]| at_end(script).is_some_and(|case| case.differs(numbers));
+        if world.start.users > 0 || !differs(&script) {
+            let smallest = case.smallest(numbers);
+            return self.session.report(call, found, &smallest, String::new());
+        }
+        let script = smallest(&script, 0, 0, differs);
+        let smallest = at_end(&script).unwrap_or(case);
+        let before = told(&world.start, &script);
+        self.session.report(call, found, &smallest, before)
+    }
+
+    /// Numbers at their edges, in a small world and in one that has them all.
+    fn edges(&mut self, random: &mut Random) -> Outcome {
+        for mode in [Mode::Delta, Mode::Full] {
+            let all = Counts {
+                resources: 256,
+                ..limits::SMALL
+            };
+            for book in [sample(mode), limits::book(mode, &all)] {
+                let (users, resources) = (book.users, book.head().resources);
+                let mut world = self.world(random, sound(book));
+                for u in NUMBERS.into_iter().chain([users - 1, users]) {
+                    for r in NUMBERS.into_iter().chain([resources - 1, resources]) {
+                        for call in [
+                            Call::View(u, r),
+                            Call::Open(u, r),
+                            Call::Grant(r, u),
+                            Call::Revoke(r, u),
+                            // Numbers in each other's place.
+                            Call::Grant(u, r),
+                            Call::Revoke(u, r),
+                        ] {
+                            self.step(&mut world, random, call)?;
+                        }
+                    }
+                }
+                for bit in 0..64 {
+                    self.step(&mut world, random, Call::Insert(1 << bit))?;
+                    self.step(&mut world, random, Call::Insert(1 << bit | 1))?;
+                    self.step(&mut world, random, Call::Insert(u64::MAX >> bit))?;
+                }
+                self.step(&mut world, random, Call::Insert(0))?;
+            }
+        }
+        Ok(())
+    }
+
+    /// Heads and tables that are too short, just long enough, and longer.
+    fn other_lengths(&mut self, random: &mut Random) -> Outcome {
+        for mode in [Mode::Delta, Mode::Full] {
+            let clean = Lent::of(&sample(mode), Filler::any(random));
+            let mut all = Vec::new();
+            for numbers in 0..10 {
+                let mut lent = clean.clone();
+                let mut head = clean.head.content().to_vec();
+                head.resize(numbers, 0x0101);
+                lent.head = Memory::of(&head);
+                all.push(lent);
+            }
+            for k in 0..5 {
+                let most = LIMITS[k] * WIDTHS[k];
+                for length in [0, most - WIDTHS[k], most - 1, most, most + 1] {
+                    let mut lent = clean.clone();
+                    resize(&mut lent.tables[k], length);
+                    all.push(lent);
+                }
+            }
+            self.summary.worlds += all.len();
+            for mut lent in all {
+                lent.list = Memory::of(&[0xB2B2; 30]);
+                for call in [
+                    Call::Join,
+                    Call::Insert(6),
+                    Call::Grant(0, 1),
+                    Call::Revoke(0, 0),
+                    Call::View(2, 1),
+                    Call::Open(0, 0),
+                    Call::Insert(0),
+                    Call::Grant(99, 99),
+                    Call::Revoke(99, 99),
+                    Call::View(99, 99),
+                    Call::Open(99, 99),
+                ] {
+                    self.session.compare(call, &lent)?;
+                }
+            }
+        }
+        Ok(())
+    }
+
+    /// 2: users to 64 and beyond.
+    fn users_full(&mut self, random: &mut Random) -> Outcome {
+        for mode in [Mode::Delta, Mode::Full] {
+            let mut world = self.world(random, SoundBook::empty(mode));
+            for _ in 0..66 {
+                self.step(&mut world, random, Call::Join)?;
+            }
+            // 2 stands before 10.
+            for numbers in [0, 3, 6] {
+                self.ask(&mut world, Call::Join, numbers)?;
+            }
+            self.steps(&mut world, random, 60, 64)?;
+        }
+        Ok(())
+    }
+
+    /// 3: resources to 256 and beyond.
+    fn resources_full(&mut self, random: &mut Random) -> Outcome {
+        for mode in [Mode::Delta, Mode::Full] {
+            let counts = Counts {
+                users: 5,
+                resources: 253,
+                ..limits::SMALL
+            };
+            let mut world = self.world(random, sound(limits::book(mode, &counts)));
+            for list in [1, 3, 31, 7, 1, 0, 32, 33, u64::MAX, 5] {
+                self.step(&mut world, random, Call::Insert(list))?;
+            }
+            for list in [0, 1, 6, 32] {
+                self.ask(&mut world, Call::Insert(list), 0)?;
+            }
+            self.steps(&mut world, random, 60, 6)?;
+        }
+        Ok(())
+    }
+
+    /// 7: one folder's list walks through sets that differ by one user, each
+    /// a new outer vertex, until there are 448 groups.
+    fn seven(&mut self, random: &mut Random) -> Outcome {
+        for mode in [Mode::Delta, Mode::Full] {
+            let mut book = joined(mode, 10);
+            grow(&mut book, &Request::Insert(UserSet::first(10).into()));
+            let gray = |n: u64| UserSet((n ^ (n >> 1)) ^ 0x3FF);
+            let walk = |n: u64, back: bool| {
+                let user = UserSet(gray(n).0 ^ gray(n + 1).0).users().next();
+                let user = user.unwrap_or(User(0));
+                if gray(n).names(user) != back {
+                    Request::Revoke(Resource(0), user)
+                } else {
+                    Request::Grant(Resource(0), user)
+                }
+            };
+            let mut n = 0;
+            while book.book().outer_groups() < MAX_OUTER_GROUPS - 2 {
+                grow(&mut book, &walk(n, false));
+                n += 1;
+            }
+            let mut world = self.world(random, book);
+            while world.book.book().outer_groups() < MAX_OUTER_GROUPS {
+                self.step(&mut world, random, call_of(&walk(n, false)))?;
+                n += 1;
+            }
+            // The next set is new; the one before is there.
+            self.refused(&mut world, call_of(&walk(n, false)))?;
+            self.step(&mut world, random, call_of(&walk(n - 1, true)))?;
+            self.step(&mut world, random, Call::Join)?;
+            self.refused(&mut world, Call::Insert(1 << 10 | 1))?;
+            self.step(&mut world, random, Call::Insert(1 << 10))?;
+            self.steps(&mut world, random, 60, 12)?;
+        }
+        Ok(())
+    }
+
+    /// 8: lists of 32 of 64 users, each entered by 32 tokens, then grants.
+    fn eight(&mut self, random: &mut Random) -> Outcome {
+        let mut book = joined(Mode::Delta, 64);
+        for _ in 0..126 {
+            let list = of_size(random, 32);
+            grow(&mut book, &Request::Insert(list.into()));
+        }
+        // By inserts: 4064 tokens, 4096, and no more.
+        let mut world = self.world(random, book.clone());
+        for _ in 0..2 {
+            let list = of_size(random, 32);
+            self.step(&mut world, random, Call::Insert(list.0))?;
+        }
+        for size in [2, 40] {
+            let list = of_size(random, size);
+            self.refused(&mut world, Call::Insert(list.0))?;
+        }
+        let there = world.book.book().inner_vertices[100];
+        self.step(&mut world, random, Call::Insert(there.0))?;
+        self.steps(&mut world, random, 12, 64)?;
+
+        // By grants: to 4096, one token each.
+        let list = of_size(random, 32);
+        grow(&mut book, &Request::Insert(list.into()));
+        let missing = UserSet::first(64).minus(book.book().resources[0].list);
+        let mut world = self.world(random, book);
+        for user in missing.users() {
+            self.step(&mut world, random, Call::Grant(0, user.0))?;
+        }
+        let missing = UserSet::first(64).minus(world.book.book().resources[1].list);
+        for user in missing.users().take(2) {
+            self.refused(&mut world, Call::Grant(1, user.0))?;
+        }
+        self.steps(&mut world, random, 12, 64)
+    }
+
+    /// 9: the same lists in full mode, then a revoke that takes the last
+    /// outer tokens.
+    fn nine(&mut self, random: &mut Random) -> Outcome {
+        let mut book = joined(Mode::Full, 64);
+        for _ in 0..126 {
+            let list = of_size(random, 32);
+            grow(&mut book, &Request::Insert(list.into()));
+        }
+        let mut world = self.world(random, book);
+        let list = of_size(random, 33);
+        self.step(&mut world, random, Call::Insert(list.0))?;
+        let listed = |world: &World, r: usize| world.book.book().resources[r].list;
+        let first = |set: UserSet| set.users().next().map_or(0, |user| user.0);
+        let user = first(listed(&world, 0));
+        self.step(&mut world, random, Call::Revoke(0, user))?;
+        let user = first(listed(&world, 1));
+        self.refused(&mut world, Call::Revoke(1, user))?;
+        let outside = first(UserSet::first(64).minus(listed(&world, 1)));
+        self.refused(&mut world, Call::Grant(1, outside))?;
+        for size in [2, 33] {
+            let list = of_size(random, size);
+            self.refused(&mut world, Call::Insert(list.0))?;
+        }
+        let there = listed(&world, 5);
+        self.step(&mut world, random, Call::Insert(there.0))?;
+        self.step(&mut world, random, Call::Insert(8))?;
+        let last = world.book.book().head().resources - 1;
+        self.step(&mut world, random, Call::Revoke(last, 3))?;
+        self.steps(&mut world, random, 12, 64)
+    }
+
+    /// Books with each count at its limit or one below, and all at once, so
+    /// that one request passes several limits.
+    fn around_the_limits(&mut self, random: &mut Random) -> Outcome {
+        for mode in [Mode::Delta, Mode::Full] {
+            for (counts, within) in limits::around() {
+                if !within {
+                    continue;
+                }
+                let mut world = self.world(random, sound(limits::book(mode, &counts)));
+                for size in [40, 2] {
+                    let list = of_size(random, size).common(world.book.book().joined());
+                    self.step(&mut world, random, Call::Insert(list.0))?;
+                }
+                for _ in 0..2 {
+                    let user = random.below(64) as u16;
+                    self.step(&mut world, random, Call::Grant(0, user))?;
+                }
+                self.steps(&mut world, random, 6, 64)?;
+            }
+        }
+        Ok(())
+    }
+
+    /// Lists {0,1}, {0,1,2}, ..: user 0 opens the last by 63 rows in each
+    /// layer.
+    fn long_chains(&mut self, random: &mut Random) -> Outcome {
+        let mut world = self.world(random, joined(Mode::Full, 64));
+        for count in 2..=64 {
+            self.step(&mut world, random, Call::Insert(UserSet::first(count).0))?;
+        }
+        for user in 0..64 {
+            self.step(&mut world, random, Call::Open(user, 62))?;
+            self.step(&mut world, random, Call::Open(user, user))?;
+        }
+        for numbers in [0, 63, 125, 126, 127] {
+            self.ask(&mut world, Call::Open(0, 62), numbers)?;
+        }
+        // 11 stands before 10.
+        self.ask(&mut world, Call::Open(63, 0), 0).map(drop)
+    }
+
+    /// 255 folders that share an inner vertex with the one granted.
+    fn many_neighbours(&mut self, random: &mut Random) -> Outcome {
+        let mut book = joined(Mode::Delta, 64);
+        for _ in 0..256 {
+            grow(&mut book, &Request::Insert(UserSet::first(63).into()));
+        }
+        let mut world = self.world(random, book);
+        for numbers in [0, 3 * 319, 3 * 320 - 1] {
+            self.ask(&mut world, Call::Grant(255, 63), numbers)?;
+        }
+        for r in [255, 0, 1, 254] {
+            self.step(&mut world, random, Call::Grant(r, 63))?;
+        }
+        self.steps(&mut world, random, 40, 64)
+    }
+
+    /// A call that mostly is refused, also with no list at all.
+    fn refused(&mut self, world: &mut World, call: Call) -> Outcome {
+        self.ask(world, call, 0).map(drop)?;
+        // If it was 10, then with a list it would not be.
+        let mut world = World {
+            start: world.start.clone(),
+            script: world.script.clone(),
+            book: world.book.clone(),
+            lent: world.lent.clone(),
+            filler: world.filler,
+        };
+        self.ask(&mut world, call, 3 * 400).map(drop)
+    }
+
+    /// A run in a random world, or single requests on bad tables.
+    fn any_world(&mut self, random: &mut Random) -> Outcome {
+        let mode = if random.chance(1, 2) {
+            Mode::Delta
+        } else {
+            Mode::Full
+        };
+        match random.below(40) {
+            0..=17 => {
+                let mut world = self.world(random, SoundBook::empty(mode));
+                let users = random.between(3, 6);
+                let count = random.between(20, 150);
+                self.steps(&mut world, random, count, users)
+            }
+            18..=29 => {
+                let shape = Shape::small(random);
+                let users = random.between(shape.users, 7);
+                let book = generate::book(random, &shape);
+                let mut world = self.world(random, sound(book));
+                let count = random.between(10, 80);
+                self.steps(&mut world, random, count, users)
+            }
+            30 => {
+                let users = random.between(56, 64);
+                let mut world = self.world(random, joined(mode, users));
+                self.steps(&mut world, random, 60, 64)
+            }
+            31 => {
+                let shape = Shape::wide(random);
+                let book = generate::book(random, &shape);
+                let mut world = self.world(random, sound(book));
+                self.steps(&mut world, random, 24, 64)
+            }
+            32 => {
+                let shape = Shape::full(random);
+                let book = generate::book(random, &shape);
+                let mut world = self.world(random, sound(book));
+                self.steps(&mut world, random, 12, 64)
+            }
+            _ => (0..10).try_for_each(|_| self.bad_tables(random)),
+        }
+    }
+
+    /// Requests on tables that are too short or no sound book.
+    fn bad_tables(&mut self, random: &mut Random) -> Outcome {
+        self.summary.worlds += 1;
+        let book = some_book(random);
+        let filler = Filler::any(random);
+        let lent = match random.below(5) {
+            0 => {
+                let mut lent = Lent::of(&book, filler);
+                shorter(random, &mut lent);
+                lent
+            }
+            1 => {
+                let damaged = generate::damage(random, &book);
+                let mut lent = Lent::of(&damaged, filler);
+                if random.chance(1, 4) {
+                    shorter(random, &mut lent);
+                }
+                lent
+            }
+            2 => {
+                let mut lent = Lent::of(&book, filler);
+                let k = random.below(5);
+                let at = random.below(book.head().counts()[k] * WIDTHS[k]);
+                lent.tables[k].lend()[at] ^= 1 << random.below(8);
+                lent
+            }
+            3 => {
+                let mut lent = Lent::of(&book, filler);
+                let number = &mut lent.head.lend()[random.below(7)];
+                *number = match random.below(4) {
+                    0 => number.wrapping_add(1),
+                    1 => number.wrapping_sub(1),
+                    2 => number.wrapping_add(256),
+                    _ => random.pick(&NUMBERS).unwrap_or(0),
+                };
+                lent
+            }
+            _ => Lent::of(&generate::damage(random, &book), filler),
+        };
+        for _ in 0..3 {
+            let call = some_call(random, &book, 64);
+            let mut lent = lent.clone();
+            let numbers = [0, 2, 3, 30, 1200][random.below(5)];
+            lent.list = Memory::of(&filler.numbers(numbers));
+            self.session.compare(call, &lent)?;
+        }
+        Ok(())
+    }
+}
+
+/// A book that is known to be sound.
+fn sound(book: Book) -> SoundBook {
+    SoundBook::new(book).unwrap_or_else(|rule| panic!("a generated book breaks {rule:?}"))
+}
+
+/// A book in which so many have joined.
+fn joined(mode: Mode, users: usize) -> SoundBook {
+    let mut book = SoundBook::empty(mode);
+    for _ in 0..users {
+        grow(&mut book, &Request::Join);
+    }
+    book
+}
+
+/// Makes a request that is accepted, on the model alone.
+fn grow(book: &mut SoundBook, request: &Request) {
+    if let Err(no) = book.answer(request, usize::MAX) {
+        panic!("a request that leads to a limit: {no}");
+    }
+}
+
+/// A random set of so many of 64 users.
+fn of_size(random: &mut Random, size: u32) -> UserSet {
+    let mut set = UserSet::EMPTY;
+    while set.size() < size {
+        set = set.with(User::at(random.below(64)));
+    }
+    set
+}
+
+/// The call as a request; a view is none.
+fn request_of(call: Call) -> Option<Request> {
+    (!matches!(call, Call::View(..))).then(|| carried(call))
+}
+
+/// A request with the numbers of the call; for a view, an open.
+fn carried(call: Call) -> Request {
+    match call {
+        Call::Insert(list) => Request::Insert(List::from(UserSet(list))),
+        Call::Grant(r, u) => Request::Grant(Resource(r), User(u)),
+        Call::Revoke(r, u) => Request::Revoke(Resource(r), User(u)),
+        Call::Open(u, r) | Call::View(u, r) => Request::Open(User(u), Resource(r)),
+        _ => Request::Join,
+    }
+}
+
+/// The request as a call.
+fn call_of(request: &Request) -> Call {
+    match *request {
+        Request::Join => Call::Join,
+        // A set can not name a user above 63.
+        Request::Insert(list) => Call::Insert(list.set.0),
+        Request::Grant(r, u) => Call::Grant(r.0, u.0),
+        Request::Revoke(r, u) => Call::Revoke(r.0, u.0),
+        Request::Open(u, r) => Call::Open(u.0, r.0),
+    }
+}
+
+/// The request as a call like that one: an open is a view again, if it was.
+fn like(call: Call, request: &Request) -> Call {
+    match (call, call_of(request)) {
+        (Call::View(..), Call::Open(u, r)) => Call::View(u, r),
+        (_, other) => other,
+    }
+}
+
+/// The requests before the last, as a script of the request program.
+fn told(start: &Book, script: &[Request]) -> String {
+    let mode = Mode::of(start.mode).map_or("?", Mode::word);
+    let from = if start.users == 0 {
+        ""
+    } else {
+        " (not from the empty book)"
+    };
+    let before = script.split_last().map_or(&[][..], |(_, before)| before);
+    let lines: String = before.iter().map(|line| format!("{line}\n")).collect();
+    format!("after{from}\n{mode}\n{lines}the call\n")
+}
+
+/// A random call: mostly a request that is accepted, some views, some with
+/// odd numbers.
+fn some_call(random: &mut Random, book: &Book, most_users: usize) -> Call {
+    match random.below(24) {
+        0 => odd_call(random, book),
+        1..=4 if book.users > 0 && !book.resources.is_empty() => {
+            let u = random.below(usize::from(book.users)) as u16;
+            let r = random.below(book.resources.len()) as u16;
+            Call::View(u, r)
+        }
+        _ => call_of(&generate::request(random, book, most_users)),
+    }
+}
+
+/// A call with numbers at some edge.
+fn odd_call(random: &mut Random, book: &Book) -> Call {
+    let users = usize::from(book.users);
+    let number = |random: &mut Random, count: usize| match random.below(5) {
+        0 => count as u16,
+        1 => count.saturating_sub(1) as u16,
+        2 => random.pick(&NUMBERS).unwrap_or(0),
+        _ => random.below(count) as u16,
+    };
+    let u = number(random, users);
+    let r = number(random, book.resources.len());
+    match random.below(5) {
+        0 => Call::Grant(r, u),
+        1 => Call::Revoke(r, u),
+        2 => Call::View(u, r),
+        3 => Call::Open(u, r),
+        _ => {
+            let all = book.joined().0;
+            let some = random.next() & all;
+            let bit = 1u64.checked_shl(u32::from(u)).unwrap_or(0);
+            Call::Insert([0, all, some, some | bit, bit, 1 << 63, u64::MAX][random.below(7)])
+        }
+    }
+}

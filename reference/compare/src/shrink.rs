@@ -1,0 +1,475 @@
+//! Smaller cases that still differ: fewer rows, fewer users, fewer bytes.
+
+use std::cell::Cell as Counter;
+use std::fmt;
+
+use fenstubble_reference::book::{Book, Head, Mode, ResourceRow};
+use fenstubble_reference::bytes::{self, read_rows, HEAD_LENGTH, LIMITS, MARK, WIDTHS};
+use fenstubble_reference::numbers::{InnerVertex, OuterVertex, User};
+use fenstubble_reference::sets::UserSet;
+
+use crate::compare::{compare, Call, Difference};
+use crate::memory::{Lent, Memory, TABLES};
+
+/// How many smaller cases are tried at most.
+const TRIES: usize = 4000;
+
+/// A call and what it is lent.
+#[derive(Clone, Debug)]
+pub struct Case {
+    /// The call.
+    pub call: Call,
+    /// What it is lent.
+    pub lent: Lent,
+}
+
+impl Case {
+    /// What differs between the two sides, if anything.
+    pub fn difference(&self) -> Option<Difference> {
+        compare(self.call, &self.lent).err()
+    }
+
+    /// Whether the two sides differ with these answers.
+    pub fn differs(&self, numbers: [Option<u8>; 2]) -> bool {
+        self.difference()
+            .is_some_and(|difference| difference.numbers == numbers)
+    }
+
+    /// The smallest case found that still differs, with the same answers.
+    pub fn smallest(self, numbers: [Option<u8>; 2]) -> Case {
+        let tries = Counter::new(TRIES);
+        let differs = |case: &Case| {
+            tries.set(tries.get().saturating_sub(1));
+            tries.get() > 0 && case.differs(numbers)
+        };
+        let plain = self.with_plain_lengths();
+        let case = if differs(&plain) { plain } else { self };
+        match case.call {
+            Call::Section(_) | Call::Read => case.smallest_bytes(differs),
+            _ => match case.lent.book_in_tables() {
+                Some(book) => {
+                    let book = smallest_book(book, |book| differs(&case.with_book(book)));
+                    case.with_book(&book)
+                }
+                None => case,
+            },
+        }
+    }
+
+    /// The same call with nothing lent that is longer than it has to be.
+    fn with_plain_lengths(&self) -> Case {
+        let mut case = self.clone();
+        let numbers = self.lent.head.len().min(7);
+        case.lent.head = Memory::of(&self.lent.head.content()[..numbers]);
+        for (k, table) in case.lent.tables.iter_mut().enumerate() {
+            let length = table.len().min(LIMITS[k] * WIDTHS[k]);
+            *table = Memory::of(&table.content()[..length]);
+        }
+        case
+    }
+
+    /// The same call on other bytes.
+    fn with_bytes(&self, bytes: &[u8]) -> Case {
+        let mut case = self.clone();
+        case.lent.book = Memory::of(bytes);
+        case
+    }
+
+    fn smallest_bytes(self, differs: impl Fn(&Case) -> bool) -> Case {
+        let given = self.lent.book.content();
+        let Some(loose) = Loose::of(given) else {
+            // Not even a head and its rows: any bytes less.
+            let bytes = fewer(given, |bytes| differs(&self.with_bytes(bytes)));
+            return self.with_bytes(&bytes);
+        };
+        let tail = fewer(&loose.tail, |tail| {
+            let tail = tail.to_vec();
+            differs(
+                &self.with_bytes(
+                    &Loose {
+                        tail,
+                        ..loose.clone()
+                    }
+                    .bytes(),
+                ),
+            )
+        });
+        let loose = Loose { tail, ..loose };
+        let book = smallest_book(loose.book.clone(), |book| {
+            let book = book.clone();
+            differs(
+                &self.with_bytes(
+                    &Loose {
+                        book,
+                        ..loose.clone()
+                    }
+                    .bytes(),
+                ),
+            )
+        });
+        self.with_bytes(&Loose { book, ..loose }.bytes())
+    }
+
+    /// The same call on the tables of another book.
+    fn with_book(&self, book: &Book) -> Case {
+        self.moved(self.call, book)
+    }
+
+    /// A call of the same kind on the tables of another book, with as much
+    /// more or less for the answer than it needs as before.
+    pub fn moved(&self, call: Call, book: &Book) -> Case {
+        let mut case = self.clone();
+        let before = self.needed();
+        case.call = call;
+        case.lent.put(book);
+        let after = case.needed();
+        let length = |given: usize| (given + after).saturating_sub(before);
+        match self.call {
+            Call::Write => {
+                case.lent.buffer = Memory::of(&vec![0x6D; length(self.lent.buffer.len())]);
+            }
+            _ => case.lent.list = Memory::of(&vec![0x6D6D; length(self.lent.list.len())]),
+        }
+        case
+    }
+
+    /// How long a buffer or list the answer needs; 0 for a refused call.
+    fn needed(&self) -> usize {
+        match self.call {
+            Call::Write => self
+                .lent
+                .book_in_tables()
+                .map_or(0, |book| bytes::length(&book.head())),
+            #[cfg(feature = "requests")]
+            _ => crate::compare::numbers_needed(self.call, &self.lent),
+            #[cfg(not(feature = "requests"))]
+            _ => 0,
+        }
+    }
+}
+
+impl fmt::Display for Case {
+    fn fmt(&self, f: &mut fmt::Formatter<'_>) -> fmt::Result {
+        writeln!(f, "{}", self.call)?;
+        let lent = &self.lent;
+        if matches!(self.call, Call::Section(_) | Call::Read) {
+            write_bytes(f, "a book", lent.book.content())?;
+            if let Some(loose) = Loose::of(lent.book.content()) {
+                write_book(f, &loose.book)?;
+            }
+        }
+        if matches!(self.call, Call::Section(_)) {
+            return Ok(());
+        }
+        if lent.head.len() != 7 {
+            writeln!(f, "a head of {} numbers", lent.head.len())?;
+        }
+        for (k, name) in TABLES.iter().enumerate() {
+            if lent.tables[k].len() != LIMITS[k] * WIDTHS[k] {
+                writeln!(f, "a table of {} bytes: {name}", lent.tables[k].len())?;
+            }
+        }
+        match self.call {
+            Call::Read => return Ok(()),
+            Call::Write => writeln!(f, "a buffer of {} bytes", lent.buffer.len())?,
+            Call::Check => {}
+            #[cfg(feature = "requests")]
+            Call::View(..) => {}
+            #[cfg(feature = "requests")]
+            _ => writeln!(f, "a list of {} numbers", lent.list.len())?,
+            #[cfg(not(feature = "requests"))]
+            _ => {}
+        }
+        writeln!(f, "the head {:?}", lent.head.content())?;
+        if let Some(book) = lent.book_in_tables() {
+            write_book(f, &book)?;
+            if book.mode < 256 && book.users < 256 {
+                write_bytes(f, "as bytes", &bytes::write(&book))?;
+            }
+        }
+        Ok(())
+    }
+}
+
+fn write_bytes(f: &mut fmt::Formatter<'_>, name: &str, bytes: &[u8]) -> fmt::Result {
+    write!(f, "{name}, {} bytes: ", bytes.len())?;
+    for byte in bytes.iter().take(2048) {
+        write!(f, "{byte:02x}")?;
+    }
+    writeln!(f, "{}", if bytes.len() > 2048 { " .." } else { "" })
+}
+
+/// The tables in the short form of a few lines.
+fn write_book(f: &mut fmt::Formatter<'_>, book: &Book) -> fmt::Result {
+    const MOST: usize = 64;
+    let row = |f: &mut fmt::Formatter<'_>, name: &str, rows: Vec<String>| {
+        let more = if rows.len() > MOST { " .." } else { "" };
+        writeln!(
+            f,
+            "{name} ({}): {}{more}",
+            rows.len(),
+            rows[..rows.len().min(MOST)].join(" ")
+        )
+    };
+    let set = |set: &UserSet| {
+        let users: Vec<String> = set.users().map(|user| user.0.to_string()).collect();
+        format!("{{{}}}", users.join(","))
+    };
+    writeln!(f, "mode {}, {} users", book.mode, book.users)?;
+    row(f, TABLES[0], book.inner_vertices.iter().map(set).collect())?;
+    let tokens = book.inner_tokens.iter();
+    let tokens = tokens.map(|token| format!("{}>{}:{}", token.from.0, token.to.0, token.kind));
+    row(f, TABLES[1], tokens.collect())?;
+    row(f, TABLES[2], book.outer_vertices.iter().map(set).collect())?;
+    let tokens = book.outer_tokens.iter();
+    let tokens = tokens.map(|token| format!("{}>{}", token.from.0, token.to.0));
+    row(f, TABLES[3], tokens.collect())?;
+    let resources = book.resources.iter().map(|row| {
+        let outer = row.outer.map_or("none".into(), |outer| outer.0.to_string());
+        format!("{}:{}:{outer}", set(&row.list), row.inner.0)
+    });
+    row(f, TABLES[4], resources.collect())
+}
+
+/// Bytes that are at least a head and the rows it asks for.
+#[derive(Clone, Debug)]
+struct Loose {
+    mark: [u8; 5],
+    book: Book,
+    /// What comes after the rows.
+    tail: Vec<u8>,
+}
+
+impl Loose {
+    fn of(bytes: &[u8]) -> Option<Loose> {
+        let number = |at: usize| u16::from_le_bytes([bytes[at], bytes[at + 1]]);
+        if bytes.len() < HEAD_LENGTH {
+            return None;
+        }
+        let head = Head {
+            mode: u16::from(bytes[5]),
+            users: u16::from(bytes[6]),
+            resources: number(7),
+            inner_vertices: number(9),
+            inner_tokens: number(11),
+            outer_vertices: number(13),
+            outer_tokens: number(15),
+        };
+        let sections = bytes::sections(&head);
+        let part = |k: usize| bytes.get(sections[k].clone());
+        Some(Loose {
+            mark: bytes[..5].try_into().ok()?,
+            book: Book {
+                mode: head.mode,
+                users: head.users,
+                inner_vertices: read_rows(part(0)?),
+                inner_tokens: read_rows(part(1)?),
+                outer_vertices: read_rows(part(2)?),
+                outer_tokens: read_rows(part(3)?),
+                resources: read_rows(part(4)?),
+            },
+            tail: bytes[sections[4].end..].to_vec(),
+        })
+    }
+
+    fn bytes(&self) -> Vec<u8> {
+        let mut bytes = bytes::write(&self.book);
+        bytes[..MARK.len()].copy_from_slice(&self.mark);
+        bytes.extend_from_slice(&self.tail);
+        bytes
+    }
+}
+
+/// As few of these as found that still differ: parts are left out, long ones
+/// first.
+fn fewer<T: Clone>(all: &[T], differs: impl Fn(&[T]) -> bool) -> Vec<T> {
+    let mut left = all.to_vec();
+    let mut part = left.len().div_ceil(2);
+    while part > 0 {
+        let mut at = 0;
+        while at < left.len() {
+            let mut without = left.clone();
+            without.drain(at..(at + part).min(left.len()));
+            if differs(&without) {
+                left = without;
+            } else {
+                at += part;
+            }
+        }
+        part /= 2;
+    }
+    left
+}
+
+/// The smallest book found that still differs: resources become one user's
+/// alone, rows and users are left out, many at once first, as long as that
+/// succeeds.
+pub fn smallest_book(mut book: Book, differs: impl Fn(&Book) -> bool) -> Book {
+    loop {
+        let before = size(&book);
+        for place in 0..book.resources.len() {
+            if let Some(plain) = with_plain_resource(&book, place) {
+                if differs(&plain) {
+                    book = plain;
+                }
+            }
+        }
+        for part in [0, 2, 1, 3, 4] {
+            let rows: Vec<usize> = (0..count(&book, part)).collect();
+            let kept = fewer(&rows, |kept| differs(&with_rows(&book, part, kept)));
+            book = with_rows(&book, part, &kept);
+        }
+        for user in (0..book.users.min(64)).rev() {
+            let without = without_user(&book, User(user));
+            if differs(&without) {
+                book = without;
+            }
+        }
+        if size(&book) == before {
+            return book;
+        }
+    }
+}
+
+fn count(book: &Book, part: usize) -> usize {
+    book.head().counts()[part]
+}
+
+fn size(book: &Book) -> usize {
+    book.head().counts().iter().sum::<usize>() + usize::from(book.users)
+}
+
+/// The book with these rows of one table alone. Without a vertex go its
+/// tokens and the resources that use it; the numbers of others move up.
+fn with_rows(book: &Book, part: usize, kept: &[usize]) -> Book {
+    fn only<T: Clone>(rows: &[T], kept: &[usize]) -> Vec<T> {
+        kept.iter().map(|&row| rows[row].clone()).collect()
+    }
+    // Numbers that are those of no vertex stay; one that is left out has no
+    // new number.
+    let moved = |number: u16, count: usize| {
+        let number = usize::from(number);
+        if number >= count {
+            return Some(number);
+        }
+        kept.binary_search(&number).ok()
+    };
+    let mut book = book.clone();
+    match part {
+        0 => {
+            let vertices = book.inner_vertices.len();
+            let vertex = |v: &mut InnerVertex| {
+                moved(v.0, vertices).map(|number| *v = InnerVertex::at(number))
+            };
+            book.inner_vertices = only(&book.inner_vertices, kept);
+            book.inner_tokens.retain_mut(|token| {
+                vertex(&mut token.from).is_some() && vertex(&mut token.to).is_some()
+            });
+            book.resources
+                .retain_mut(|row| vertex(&mut row.inner).is_some());
+        }
+        1 => book.inner_tokens = only(&book.inner_tokens, kept),
+        2 => {
+            let vertices = book.outer_vertices.len();
+            let vertex = |v: &mut OuterVertex| {
+                moved(v.0, vertices).map(|number| *v = OuterVertex::at(number))
+            };
+            book.outer_vertices = only(&book.outer_vertices, kept);
+            book.outer_tokens.retain_mut(|token| {
+                vertex(&mut token.from).is_some() && vertex(&mut token.to).is_some()
+            });
+            book.resources.retain_mut(|row| match &mut row.outer {
+                Some(outer) => vertex(outer).is_some(),
+                None => true,
+            });
+        }
+        3 => book.outer_tokens = only(&book.outer_tokens, kept),
+        _ => book.resources = only(&book.resources, kept),
+    }
+    book
+}
+
+/// The book with a resource that is the first user's alone; none if it is.
+fn with_plain_resource(book: &Book, place: usize) -> Option<Book> {
+    let user = User(0);
+    let plain = ResourceRow {
+        list: UserSet::alone(user),
+        inner: book.own_inner_vertex(user)?,
+        outer: match Mode::of(book.mode) {
+            Some(Mode::Full) => Some(book.own_outer_vertex(user)?),
+            _ => None,
+        },
+    };
+    let mut book = book.clone();
+    let row = book.resources.get_mut(place)?;
+    (*row != plain).then(|| *row = plain)?;
+    Some(book)
+}
+
+/// The book without a user and their own vertices; the numbers of users
+/// above move up.
+fn without_user(book: &Book, user: User) -> Book {
+    let own = UserSet::alone(user);
+    let others = |sets: &[UserSet]| -> Vec<usize> {
+        (0..sets.len()).filter(|&row| sets[row] != own).collect()
+    };
+    let below = own.0.wrapping_sub(1);
+    let moved = |set: UserSet| UserSet(set.0 & below | set.0 >> 1 & !below);
+    let mut book = with_rows(book, 0, &others(&book.inner_vertices));
+    book = with_rows(&book, 2, &others(&book.outer_vertices));
+    book.users -= 1;
+    for set in book
+        .inner_vertices
+        .iter_mut()
+        .chain(&mut book.outer_vertices)
+    {
+        *set = moved(*set);
+    }
+    for row in &mut book.resources {
+        row.list = moved(row.list);
+    }
+    book
+}
+
+#[cfg(test)]
+mod tests {
+    use super::*;
+    use fenstubble_reference::generate::{self, Random, Shape};
+    use fenstubble_reference::sound::sound;
+
+    #[test]
+    fn sound_books_get_small() {
+        let mut random = Random::new(4);
+        for _ in 0..20 {
+            let shape = Shape {
+                resources: 8,
+                inner_groups: 5,
+                ..Shape::small(&mut random)
+            };
+            let book = generate::book(&mut random, &shape);
+            if book.resources.is_empty() {
+                continue;
+            }
+            // A sound book with a resource is left one, and one user.
+            let small = smallest_book(book, |book| {
+                sound(book).is_ok() && !book.resources.is_empty()
+            });
+            assert_eq!(small.resources.len(), 1, "{small:?}");
+            assert!(small.users <= 2 && size(&small) <= 12, "{small:?}");
+        }
+    }
+
+    #[test]
+    fn loose_bytes() {
+        let mut random = Random::new(5);
+        let shape = Shape::small(&mut random);
+        let book = generate::book(&mut random, &shape);
+        let mut bytes = bytes::write(&book);
+        bytes[0] = 9;
+        bytes.extend([1, 2]);
+        let loose = Loose::of(&bytes).unwrap();
+        assert_eq!(loose.bytes(), bytes);
+        assert_eq!((loose.book, loose.tail), (book, vec![1, 2]));
+        assert!(Loose::of(&bytes[..16]).is_none());
+    }
+}

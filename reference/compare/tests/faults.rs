@@ -1,0 +1,172 @@
+//! The comparison can fail: each fault planted in the stand-in is found, told
+//! for what it is, and shrunk.
+
+use fenstubble_compare::books;
+use fenstubble_compare::report::{Bounds, Report};
+use fenstubble_compare::standin::{plant, Fault};
+
+const BOUNDS: Bounds = Bounds {
+    seed: 3,
+    first: 0,
+    count: 20_000,
+    time: None,
+};
+
+/// The report with the fault planted.
+fn found<S: std::fmt::Debug>(
+    fault: Fault,
+    run: impl FnOnce(Bounds) -> Result<S, Box<Report>>,
+) -> Report {
+    plant(fault);
+    let report = *run(BOUNDS).expect_err("the fault was not found");
+    plant(Fault::None);
+    println!("{fault:?}: {report}\n");
+    report
+}
+
+#[test]
+fn faults_in_books() {
+    for (fault, call, text) in [
+        (
+            Fault::TableOnRefusal,
+            "read",
+            "it should have stayed as it was",
+        ),
+        (
+            Fault::CellOnRefusal,
+            "section",
+            "result 12, which goes with no cells",
+        ),
+        (Fault::WrongNumber, "read", "engine no 12, model no 13"),
+        (
+            Fault::LateSection,
+            "section",
+            "engine Stretch(18, 0), model Stretch(17, 0)",
+        ),
+        (
+            Fault::PastTheEnd,
+            "read",
+            "resources 0 past the lent end: engine 0",
+        ),
+        (Fault::UnusedRow, "read", "the table of inner vertices at"),
+        (Fault::HeadForgotten, "", "the head at 6: engine 0"),
+        (
+            Fault::WrongLength,
+            "write",
+            "engine Length(18), model Length(17)",
+        ),
+        (
+            Fault::PastTheAnswer,
+            "write",
+            "the buffer 0 past the lent end: engine 0",
+        ),
+        (Fault::FewResources, "read", "engine no 12, model Nothing"),
+    ] {
+        let report = found(fault, books::run);
+        assert!(report.call.starts_with(call), "{fault:?}: {report}");
+        assert!(report.text.contains(text), "{fault:?}: {report}");
+        assert!(report.smallest.contains(text), "{fault:?}: {report}");
+    }
+}
+
+#[test]
+fn the_smallest_book() {
+    // Three resources are as few as differ; they need one user, with an own
+    // vertex in each layer.
+    let report = found(Fault::FewResources, |bounds| {
+        books::run(Bounds { first: 2, ..bounds })
+    });
+    for line in [
+        "1 users",
+        "inner vertices (1): {0}",
+        "inner tokens (0):",
+        "outer vertices (1): {0}",
+        "outer tokens (0):",
+        "resources (3):",
+    ] {
+        assert!(report.smallest.contains(line), "{line}: {report}");
+    }
+}
+
+#[test]
+fn a_case_alone() {
+    // The number of the case is enough to find it again.
+    let report = found(Fault::FewResources, |bounds| {
+        books::run(Bounds { first: 9, ..bounds })
+    });
+    assert!(report.case >= 9);
+    let again = found(Fault::FewResources, |bounds| {
+        books::run(Bounds {
+            first: report.case,
+            count: 1,
+            ..bounds
+        })
+    });
+    assert_eq!(again, report);
+}
+
+#[test]
+fn something_kept_between_calls() {
+    let report = found(Fault::Every300th, books::run);
+    assert!(report.text.contains("engine no 13"), "{report}");
+    assert!(report.smallest.contains("does not differ"), "{report}");
+}
+
+#[cfg(feature = "requests")]
+mod requests {
+    use super::*;
+    use fenstubble_compare::requests;
+
+    #[test]
+    fn faults_in_requests() {
+        for (fault, call, text) in [
+            (Fault::TableOnRefusal, "", "it should have stayed as it was"),
+            (Fault::CellOnRefusal, "", "which goes with no cells"),
+            (Fault::WrongNumber, "", "engine no 12, model no 13"),
+            (Fault::WrongCount, "", "engine Orders("),
+            (Fault::PastTheRows, "", "the list at"),
+            (Fault::LastRow, "grant", "the list at"),
+            (Fault::HeadKept, "revoke", "the head at"),
+            (
+                Fault::ViewLost,
+                "open",
+                "result 11, which goes with no cells",
+            ),
+            (Fault::ViewsSwapped, "view", "engine View("),
+            (Fault::ChainsSwapped, "open", "engine Chains("),
+        ] {
+            let report = found(fault, requests::run);
+            assert!(report.call.starts_with(call), "{fault:?}: {report}");
+            assert!(report.text.contains(text), "{fault:?}: {report}");
+            assert!(report.smallest.contains(text), "{fault:?}: {report}");
+        }
+    }
+
+    #[test]
+    fn the_smallest_script() {
+        // Past the fixed cases, until a run from the empty book finds it: two
+        // users are as few as make a chain, and one list of both.
+        let scripts = (10..40).filter_map(|first| {
+            let report = found(Fault::ChainsSwapped, |bounds| {
+                requests::run(Bounds { first, ..bounds })
+            });
+            let script = report.smallest.strip_prefix("after\n")?;
+            let (script, _) = script.split_once("the call\n")?;
+            Some(script.to_string())
+        });
+        let shortest = scripts.min_by_key(|script| script.lines().count());
+        let shortest = shortest.expect("no run from the empty book");
+        assert_eq!(shortest, "delta\njoin\njoin\ninsert 0 1\n");
+    }
+
+    #[test]
+    fn the_smallest_world() {
+        // The view of user 0 on resource 1: two users and two resources are
+        // as few as differ, with one group between them.
+        let report = found(Fault::ViewsSwapped, requests::run);
+        assert_eq!(report.call, "view 0 1");
+        for line in ["2 users", "inner vertices (3)", "resources (2)"] {
+            assert!(report.smallest.contains(line), "{line}: {report}");
+        }
+    }
+}

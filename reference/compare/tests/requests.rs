@@ -1,0 +1,37 @@
+//! A bounded comparison of join, insert, grant, revoke, view and open.
+
+use std::time::Duration;
+
+use fenstubble_compare::report::Bounds;
+use fenstubble_compare::requests;
+
+#[test]
+fn requests_alike() {
+    let bounds = Bounds {
+        seed: 1,
+        first: 0,
+        count: 100_000,
+        time: Some(Duration::from_secs(30)),
+    };
+    let summary = requests::run(bounds).unwrap_or_else(|report| panic!("{report}"));
+    println!("{summary}");
+
+    // It was no empty comparison: every number each request can get.
+    for (name, numbers) in [
+        ("join", &[0, 2, 10, 12, 13][..]),
+        ("insert", &[0, 1, 3, 4, 7, 8, 9, 10, 12, 13]),
+        ("grant", &[0, 1, 5, 7, 8, 9, 10, 12, 13]),
+        ("revoke", &[0, 1, 6, 7, 9, 10, 12, 13]),
+        ("view", &[0, 1, 12, 13]),
+        ("open", &[0, 1, 10, 11, 12, 13]),
+    ] {
+        for &number in numbers {
+            assert!(
+                summary.tally.of(name, number) > 0,
+                "{name} {number}: {summary}"
+            );
+        }
+    }
+    assert_eq!(summary.longest, [63, 63]);
+    assert!(summary.most_orders >= 320, "{summary}");
+}
