@@ -1,5 +1,6 @@
 // The requests: check, plan, apply. Nothing is written before every refusal is excluded.
 pub mod apply;
+pub mod grant;
 pub mod judge;
 pub mod plan;
 pub mod step;
