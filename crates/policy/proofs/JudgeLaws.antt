@@ -50,7 +50,7 @@ verdict-passed [] ys e = refl
 verdict-passed ((r, true) ∷ xs) ys e = cc
 verdict-passed ((r, false) ∷ xs) ys e = verdict-passed xs ys e
 
-verdict-first : (xs ys : Rows) {r : Refusal} → verdict xs ≡ some r → verdict (xs ++ ys) ≡ some r
+pub verdict-first : (xs ys : Rows) {r : Refusal} → verdict xs ≡ some r → verdict (xs ++ ys) ≡ some r
 unfolding verdict
 verdict-first [] ys e = cc
 verdict-first ((r, true) ∷ xs) ys e = e

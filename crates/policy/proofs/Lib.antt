@@ -2,3 +2,4 @@ pub mod WriteLaws
 pub mod ReadyLaws
 pub mod PartLaws
 pub mod JudgeLaws
+pub mod OpenLaws

@@ -33,16 +33,17 @@ unfoldable pub openableBy : Option Refusal → Lengths → Openable
 openableBy none k = Go k
 openableBy (some r) k = No r
 
--- 1, 11 and 10, in the order of the table, where 13 and 12 are excluded; `room` numbers or rows are lent for the chains
-unfoldable pub openable : Book → ℕ → ℕ → ℕ → Openable
-openable b u r room =
-    openableBy
-    (verdict
-    ((NoSuch, noSuch b u r)
+-- 1, 11 and 10 (`refusalOpen`); `room` numbers or rows are lent for the chains
+abbrev pub ownOpen : Book → ℕ → ℕ → ℕ → List (Refusal × Bool)
+ownOpen b u r room =
+    (NoSuch, noSuch b u r)
     ∷ (Closed (view b u r), not (eqb (viewNumber (view b u r)) 0))
     ∷ (ShortList, ltb room (length (opened b u r)))
-    ∷ []))
-    (lengthsOf b u r)
+    ∷ []
+
+-- the first of them that holds, where 13 and 12 are excluded; else the chains' lengths
+unfoldable pub openable : Book → ℕ → ℕ → ℕ → Openable
+openable b u r room = openableBy (verdict (ownOpen b u r room)) (lengthsOf b u r)
 
 -- u opens r, in tables that hold a sound book
 pub record Opening (h : Head) (t : Tables) (u r : ℕ) : Type 0 where
