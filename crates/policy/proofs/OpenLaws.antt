@@ -137,6 +137,9 @@ module _ (h : Head) (iv it ov ot rs : List ℕ) where
   outer-layer = refl
 
   module _ (ready : Ready h t) where
+    pub user-below : {u : ℕ} → u < h .users .0 → u < 64
+    user-below l = omega (arith, sizes h iv it ov ot rs ready .users≤)
+
     pub inner-kept : {i : Shape} → i ≡ innerShape h → Kept i it iv
     unfolding bookIn layerOf
     inner-kept e = rw e (layered-kept (innerShape h) it iv (sound-kept b (ready .sound′) .inner) (inner-laid h iv it ov ot rs ready))
@@ -225,9 +228,9 @@ module _ (h : Head) (iv it ov ot rs : List ℕ) where
 
         pub outer-names : OuterNames s (layerOf s ot ov) u (x .outer)
         outer-names = rw (outer-is, es) (λ n. (
-            outer-there (o .ready) u r (o .there) ex n,
-            rw row′ (outer-main b safe u (resource b r .outer) .0 (keys .sel (λ e. n (ap (λ (y : Resource). y .outer) row′ ∙ e)))),
-          ))
+          outer-there (o .ready) u r (o .there) ex n,
+          rw row′ (outer-main b safe u (resource b r .outer) .0 (keys .sel (λ e. n (ap (λ (y : Resource). y .outer) row′ ∙ e)))),
+        ))
 
         pub outer-shown : outerRows (layerOf s ot ov) u (x .outer) ≡ outerChain b u r
         unfolding outerChain hasOuter
@@ -388,10 +391,7 @@ module _ (h : Head) (t : Tables) (u r : ℕ) {k : Checked} (ek : k ≡ checked h
             let (g, _) = verdict-none ShortList (ltb (length list) (length (opened B u r))) _ q in
             (e, opens (view B u r) f, ltb-false (length list) (length (opened B u r)) g)
 
-        pub open-lengths : (c .inner ≡ length (innerChain B u r)) × (length (opened B u r) ≤ length list)
-        open-lengths = (ap (λ (x : Lengths). x .inner) (go .1), none-holds .2)
-
-        pub open-opens : Opening h t u r
+        open-opens : Opening h t u r
         open-opens =
             let (a, l) = such B u r (none-holds .0) in
             record {
@@ -400,6 +400,10 @@ module _ (h : Head) (t : Tables) (u r : ℕ) {k : Checked} (ek : k ≡ checked h
               there = rw (resources-count h (t .innerVertices) (t .innerTokens) (t .outerVertices) (t .outerTokens) (t .resources)) at l;
               opens = none-holds .1;
             }
+
+        -- what writing the chains asks
+        pub open-asks : Opening h t u r × ((c .inner ≡ length (innerChain B u r)) × (length (opened B u r) ≤ length list))
+        open-asks = (open-opens, (ap (λ (x : Lengths). x .inner) (go .1), none-holds .2))
 
         -- the answer's counts are small
         pub open-few : (c .inner < 64) × (c .outer < 64)

@@ -1,45 +1,34 @@
+-- `policy::open::chain_lengths` meets its contract. Assumes nothing.
+use Rattle.layer.specs.Laid.{resourceIs}
+use Rattle.policy.proofs.ReadyLaws.{sizes}
+use Rattle.policy.proofs.OpenLaws.{user-below, inner-kept, outer-kept, inner-there, outer-names, lengths-are}
 use borrow.Author.Needs.{needs}
 use Rattle.policy.proofs.open.chain_lengths.Statement.{statement}
 use Rattle.policy.proofs.open.chain_lengths.Tie as tie
-use Rattle.policy.proofs.open.chain_lengths.Reads as reads
-use Rattle.policy.proofs.open.chain_lengths.Lts as lts
-use Rattle.layer.proofs.table.resource_in.Reads as resource-in-reads
-use Rattle.policy.proofs.open.inner_length.Reads as inner-length-reads
-use Rattle.policy.proofs.open.outer_length.Reads as outer-length-reads
-use Rattle.policy.proofs.plan.inner_shape.Reads as inner-shape-reads
-use Rattle.policy.proofs.plan.outer_shape.Reads as outer-shape-reads
 
--- src/open.rt:160:29
 cast-resource-in : tie.Need-cast-resource-in
 cast-resource-in c = search needs
 
--- src/open.rt:160:53
 cast-resource-in-2 : tie.Need-cast-resource-in-2
 cast-resource-in-2 c = search needs
 
--- src/open.rt:160:9
 resource-in-requires : tie.Need-resource-in-requires
-resource-in-requires c κs = ?
+resource-in-requires c κs = let s = c .before .before .before .before .before .before .before in (sizes _ _ _ _ _ _ (s .pre .ready) .room .resources, s .pre .there)
 
--- src/open.rt:161:38
 inner-shape-requires : tie.Need-inner-shape-requires
 inner-shape-requires c κs = search needs
 
--- src/open.rt:161:9
 inner-length-requires : tie.Need-inner-length-requires
-inner-length-requires c κs = ?
+inner-length-requires c κs = let s = c .before .before .before .before .before .before .before .before .before in (inner-kept _ _ _ _ _ _ (s .pre .ready) (c .inner-shape .ensures), (inner-there _ _ _ _ _ _ (s .pre .ready) (s .args .u .0) _ (s .pre .there) {x = resourceIs (c .before .resource-in .result)} (c .before .resource-in .ensures) (c .inner-shape .ensures), user-below _ _ _ _ _ _ (s .pre .ready) (s .pre .user)))
 
--- src/open.rt:162:38
 outer-shape-requires : tie.Need-outer-shape-requires
 outer-shape-requires c κs = search needs
 
--- src/open.rt:162:9
 outer-length-requires : tie.Need-outer-length-requires
-outer-length-requires c κs = ?
+outer-length-requires c κs = let s = c .before .before .before .before .before .before .before .before .before .before .before in (outer-kept _ _ _ _ _ _ (s .pre .ready) (c .outer-shape .ensures), (user-below _ _ _ _ _ _ (s .pre .ready) (s .pre .user), outer-names _ _ _ _ _ _ _ _ (s .pre) {x = resourceIs (c .before .before .before .resource-in .result)} (c .before .before .before .resource-in .ensures) (c .outer-shape .ensures)))
 
--- src/open.rt:147:1
 returns : tie.Need-returns
-returns c = ?
+returns c = let s = c .before .before .before .before .before .before .before .before .before .before .before .before in lengths-are _ _ _ _ _ _ _ _ (s .pre) {x = resourceIs (c .before .before .before .before .resource-in .result)} (c .before .before .before .before .resource-in .ensures) (c .before .before .before .inner-shape .ensures) (c .before .outer-shape .ensures) (c .before .before .inner-length .ensures) (c .outer-length .ensures)
 
 pub chain-lengths-spec : {M : Type 1} → statement M
 chain-lengths-spec =

@@ -1,31 +1,26 @@
+-- `policy::open::inner_length` meets its contract. Assumes nothing.
+use mathlib.Core.Path.{sym, ap, _∙_}
+use lib.ListN.{length}
+use borrow.Author.Tests.{not-true, not-false}
+use Rattle.policy.proofs.OpenLaws.{set-names, inner-chained, inner-direct}
 use borrow.Author.Needs.{needs}
 use Rattle.policy.proofs.open.inner_length.Statement.{statement}
 use Rattle.policy.proofs.open.inner_length.Tie as tie
-use Rattle.policy.proofs.open.inner_length.Reads as reads
-use Rattle.policy.proofs.open.inner_length.Lts as lts
-use Rattle.layer.proofs.table.set_of.Reads as set-of-reads
-use Rattle.layer.proofs.walk.chain_length.Reads as chain-length-reads
-use Rattle.sets.proofs.Users.has.Reads as has-reads
 
--- src/open.rt:129:9
 set-of-requires : tie.Need-set-of-requires
 set-of-requires c κs = search needs
 
--- src/open.rt:129:9
 has-requires : tie.Need-has-requires
 has-requires c κs = search needs
 
--- src/open.rt:130:9
 returns : tie.Need-returns
-returns c = ?
+returns c = ap length (inner-direct _ _ _ (sym (set-names (c .before .before .before .before .before .args .i) _ _ _ _ (c .before .before .set-of .ensures) (c .before .has .ensures)) ∙ not-true _ (c .if1 .taken)))
 
--- src/open.rt:132:5
 chain-length-requires : tie.Need-chain-length-requires
-chain-length-requires c κs = ?
+chain-length-requires c κs = let s = c .before .before .before .before .before in (s .pre .0, (s .pre .1 .0, s .pre .1 .1, sym (set-names (s .args .i) _ _ _ _ (c .before .before .set-of .ensures) (c .before .has .ensures)) ∙ not-false _ (c .if1 .left)))
 
--- src/open.rt:124:1
 returns-2 : tie.Need-returns-2
-returns-2 c = ?
+returns-2 c = c .chain-length .ensures ∙ ap length (inner-chained _ _ _ (sym (set-names (c .before .before .before .before .before .before .args .i) _ _ _ _ (c .before .before .before .set-of .ensures) (c .before .before .has .ensures)) ∙ not-false _ (c .before .if1 .left)))
 
 pub inner-length-spec : {M : Type 1} → statement M
 inner-length-spec =

@@ -1,64 +1,62 @@
+-- `policy::open::inner_rows` meets its contract. Assumes nothing.
+use Prim.Native.Nat.{ℕ, _<_}
+use mathlib.Core.Path.{_≡_, sym, ap, _∙_}
+use mathlib.Core.List.{List, [], _∷_}
+use Rattle.rows.specs.Number.{stored}
+use Rattle.policy.proofs.OpenLaws.{set-names, inner-chained, direct-there, direct-found, row-written}
+use native.Mathlib.Omega.{arith}
+use lib.ListN.{length}
+use Rattle.layer.specs.Laid.{layerOf}
+use Rattle.policy.specs.Open.{innerRows}
 use borrow.Author.Needs.{needs}
 use Rattle.policy.proofs.open.inner_rows.Statement.{statement}
 use Rattle.policy.proofs.open.inner_rows.Tie as tie
-use Rattle.policy.proofs.open.inner_rows.Reads as reads
-use Rattle.policy.proofs.open.inner_rows.Lts as lts
-use Rattle.layer.proofs.table.set_of.Reads as set-of-reads
-use Rattle.layer.proofs.walk.chain_rows.Reads as chain-rows-reads
-use Rattle.layer.proofs.walk.find_direct.Reads as find-direct-reads
-use Rattle.sets.proofs.Users.has.Reads as has-reads
 
--- src/open.rt:209:8
+-- the row that the search found is the one kind 1 row
+found : (c : tie.After-known-told) →
+    let s = c .before .before .before .before .before .before .before .before .before .before in
+    let row = c .before .row .given .0 .0 in
+    (row < s .args .i .tokens) × (row ∷ [] ≡ innerRows (layerOf (s .args .i) (s .args .it .now) (s .args .iv .now)) (s .args .u .0) (s .args .v))
+found c = let s = c .before .before .before .before .before .before .before .before .before .before in direct-found (s .args .i) _ _ _ (s .pre .1 .0 .2) (sym (set-names (s .args .i) _ _ _ _ (c .before .before .before .before .before .before .set-of .ensures) (c .before .before .before .before .before .has .ensures)) ∙ c .before .before .before .before .if1 .left) (c .before .before .before .find-direct .ensures) (c .before .row .given .1)
+
 set-of-requires : tie.Need-set-of-requires
 set-of-requires c κs = search needs
 
--- src/open.rt:209:8
 has-requires : tie.Need-has-requires
 has-requires c κs = search needs
 
--- src/open.rt:210:9
 chain-rows-requires : tie.Need-chain-rows-requires
-chain-rows-requires c κs = ?
+chain-rows-requires c κs = let s = c .before .before .before .before .before .before .before in let names = sym (set-names (s .args .i) _ _ _ _ (c .before .before .before .set-of .ensures) (c .before .before .has .ensures)) ∙ c .before .if1 .taken in (s .pre .0, ((s .pre .1 .0 .0, s .pre .1 .0 .1, names), rw (inner-chained _ _ _ names) (s .pre .1 .1)))
 
--- src/open.rt:211:9
 same-length : tie.Need-same-length
 same-length c = search needs
 
--- src/open.rt:211:9
 returns : tie.Need-returns
-returns c = ?
+returns c = let s = c .before .before .before .before .before .before .before .before .before .before in c .before .before .chain-rows .ensures .1 ∙ ap (λ (x : List ℕ). stored 0 x (s .args .list .now)) (inner-chained _ _ _ (sym (set-names (s .args .i) _ _ _ _ (c .before .before .before .before .before .before .set-of .ensures) (c .before .before .before .before .before .has .ensures)) ∙ c .before .before .before .before .if1 .taken))
 
--- src/open.rt:213:26
 find-direct-requires : tie.Need-find-direct-requires
 find-direct-requires c κs = search needs
 
--- src/open.rt:213:19
 enum-known-row : tie.Need-enum-known-row
 enum-known-row c = search needs
 
--- src/open.rt:214:9
 enum-told : tie.Need-enum-told
 enum-told c = search needs
 
--- src/open.rt:214:9
 returns-2 : tie.Need-returns-2
-returns-2 c = ?
+returns-2 c = let s = c .before .before .before .before .before .before .before .before .before in absurd (direct-there (s .args .i) _ _ _ (s .pre .1 .0 .2) (sym (set-names (s .args .i) _ _ _ _ (c .before .before .before .before .before .set-of .ensures) (c .before .before .before .before .has .ensures)) ∙ c .before .before .before .if1 .left) (c .before .before .find-direct .ensures) (c .enum-told .given .1))
 
--- src/open.rt:216:15
 cast-list : tie.Need-cast-list
-cast-list c = ?
+cast-list c = omega (arith, found c .0, c .before .before .before .before .before .before .before .before .before .before .pre .0 .laid .few)
 
--- src/open.rt:216:5
 slice-write-list : tie.Need-slice-write-list
-slice-write-list c = ?
+slice-write-list c = omega (arith, ap length (found c .1), c .before .before .before .before .before .before .before .before .before .before .pre .1 .1)
 
--- src/open.rt:203:1
 same-length-2 : tie.Need-same-length-2
 same-length-2 c = search needs
 
--- src/open.rt:203:1
 returns-3 : tie.Need-returns-3
-returns-3 c = ?
+returns-3 c = row-written _ _ _ (found c .1) (omega (arith, ap length (found c .1), c .before .before .before .before .before .before .before .before .before .before .pre .1 .1))
 
 pub inner-rows-spec : {M : Type 1} → statement M
 inner-rows-spec =

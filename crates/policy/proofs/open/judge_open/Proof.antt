@@ -1,46 +1,50 @@
+-- `policy::open::judge_open` meets its contract. Assumes nothing.
+use mathlib.Core.Path.{refl, sym, _∙_}
+use native.Mathlib.Omega.{arith}
+use denote.Enum.Declared.{tagOf}
+use Rattle.rules.proofs.View.{the-type}
+use Rattle.rules.specs.Bytes.{tables}
+use Rattle.policy.specs.Open.{Opening}
+use Rattle.policy.proofs.PartLaws.{there}
+use Rattle.policy.proofs.ReadyLaws.{such-told}
+use Rattle.policy.proofs.OpenLaws.{few, not-open, open-no-such, open-closed, open-short, open-go}
 use borrow.Author.Needs.{needs}
 use Rattle.policy.proofs.open.judge_open.Statement.{statement}
 use Rattle.policy.proofs.open.judge_open.Tie as tie
-use Rattle.policy.proofs.open.judge_open.Reads as reads
-use Rattle.policy.proofs.open.judge_open.Lts as lts
-use Rattle.policy.proofs.judge.no_such.Reads as no-such-reads
-use Rattle.policy.proofs.open.chain_lengths.Reads as chain-lengths-reads
-use Rattle.policy.proofs.open.view_of.Reads as view-of-reads
 
--- src/open.rt:186:8
+-- the user and the resource exist, and the view is open
+opening : (c : tie.After-enum-told) → let a = c .before .before .before .before .before .before .before .before .before .before .args in Opening (a .h) (tables (a .iv .now) (a .it .now) (a .ov .now) (a .ot .now) (a .rs .now)) (a .u .0) (a .r .0)
+opening c =
+    let a = c .before .before .before .before .before .before .before .before .before .before .args in
+    let (user, resource) = there (a .u .0) (a .h .users .0) (a .r .0) (a .h .resources .0) (c .before .before .before .before .no-such .ensures) (c .before .before .before .if1 .left) in
+    record { ready = c .before .before .before .before .before .before .before .before .before .before .pre; user = user; there = resource; opens = sym (c .before .before .view-of .ensures) ∙ c .enum-told .given .1 }
+
 no-such-requires : tie.Need-no-such-requires
 no-such-requires c κs = search needs
 
--- src/open.rt:187:9
 returns : tie.Need-returns
-returns c = ?
+returns c = let a = c .before .before .before .before .before .before .before .args in open-no-such _ _ _ _ (sym (such-told (a .h) _ _ _ _ _ _ _ (c .before .no-such .ensures)) ∙ c .if1 .taken)
 
--- src/open.rt:189:9
 view-of-requires : tie.Need-view-of-requires
-view-of-requires c κs = ?
+view-of-requires c κs = let a = c .before .before .before .before .before .before .before .args in (c .before .before .before .before .before .before .before .pre, there (a .u .0) (a .h .users .0) (a .r .0) (a .h .resources .0) (c .before .no-such .ensures) (c .if1 .left))
 
 enum-told : tie.Need-enum-told
 enum-told c = search needs
 
--- src/open.rt:191:9
 returns-2 : tie.Need-returns-2
-returns-2 c = ?
+returns-2 c = let a = c .before .before .before .before .before .before .before .before .before .args in open-closed _ _ _ _ (sym (such-told (a .h) _ _ _ _ _ _ _ (c .before .before .before .no-such .ensures)) ∙ c .before .before .if1 .left) (c .before .view-of .ensures) (not-open (tagOf the-type) refl (c .match .keys2))
 
--- src/open.rt:193:9
 chain-lengths-requires : tie.Need-chain-lengths-requires
-chain-lengths-requires c κs = ?
+chain-lengths-requires c κs = opening c
 
--- src/open.rt:194:15
 add-if2 : tie.Need-add-if2
-add-if2 c = ?
+add-if2 c = let s = c .before .before .before .before .before .before .before .before .before .before .before .before in omega (arith, few _ _ _ _ _ _ _ _ (opening (c .before .before)) (c .before .chain-lengths .ensures))
 
--- src/open.rt:195:9
 returns-3 : tie.Need-returns-3
-returns-3 c = ?
+returns-3 c = let a = c .before .before .before .before .before .before .before .before .before .before .before .before .before .args in open-short _ _ _ _ (sym (such-told (a .h) _ _ _ _ _ _ _ (c .before .before .before .before .before .before .before .no-such .ensures)) ∙ c .before .before .before .before .before .before .if1 .left) (c .before .before .before .before .before .view-of .ensures) (c .before .before .before .enum-told .given .1) (c .before .before .chain-lengths .ensures) (c .if2 .taken)
 
--- src/open.rt:172:1
 returns-4 : tie.Need-returns-4
-returns-4 c = ?
+returns-4 c = let a = c .before .before .before .before .before .before .before .before .before .before .before .before .before .args in open-go _ _ _ _ (sym (such-told (a .h) _ _ _ _ _ _ _ (c .before .before .before .before .before .before .before .no-such .ensures)) ∙ c .before .before .before .before .before .before .if1 .left) (c .before .before .before .before .before .view-of .ensures) (c .before .before .before .enum-told .given .1) (c .before .before .chain-lengths .ensures) (c .if2 .left)
 
 pub judge-open-spec : {M : Type 1} → statement M
 judge-open-spec =

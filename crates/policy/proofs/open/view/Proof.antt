@@ -1,43 +1,35 @@
+-- `policy::open::view` meets its contract. Assumes nothing.
+use mathlib.Core.Path.{sym, _∙_}
+use Rattle.policy.proofs.PartLaws.{there}
+use Rattle.policy.proofs.ReadyLaws.{such-told}
+use Rattle.policy.proofs.OpenLaws.{checked-ready, view-refused, view-no-such, view-told}
 use borrow.Author.Needs.{needs}
 use Rattle.policy.proofs.open.view.Statement.{statement}
 use Rattle.policy.proofs.open.view.Tie as tie
-use Rattle.policy.proofs.open.view.Reads as reads
-use Rattle.policy.proofs.open.view.Lts as lts
-use Rattle.policy.proofs.judge.no_such.Reads as no-such-reads
-use Rattle.policy.proofs.open.view_of.Reads as view-of-reads
-use Rattle.sound.proofs.check.Reads as check-reads
 
--- src/open.rt:103:9
 check-requires : tie.Need-check-requires
 check-requires c κs = search needs
 
--- src/open.rt:105:21
 enum-known-k : tie.Need-enum-known-k
 enum-known-k c = search needs
 
--- src/open.rt:107:16
 enum-told : tie.Need-enum-told
 enum-told c = search needs
 
--- src/open.rt:107:16
 no-such-requires : tie.Need-no-such-requires
 no-such-requires c κs = search needs
 
--- src/open.rt:108:17
 returns : tie.Need-returns
-returns c = ?
+returns c = let a = c .before .before .before .before .before .before .before .before .before .before .args in view-no-such _ _ _ _ (c .before .before .before .before .check .ensures) (c .before .before .enum-told .given .1) (sym (such-told (a .h) _ _ _ _ _ _ _ (c .before .no-such .ensures)) ∙ c .if1 .taken)
 
--- src/open.rt:110:24
 view-of-requires : tie.Need-view-of-requires
-view-of-requires c κs = ?
+view-of-requires c κs = let a = c .before .before .before .before .before .before .before .before .before .before .args in (checked-ready _ _ (c .before .before .before .before .check .ensures) (c .before .before .enum-told .given .1), there (a .u .0) (a .h .users .0) (a .r .0) (a .h .resources .0) (c .before .no-such .ensures) (c .if1 .left))
 
--- src/open.rt:91:1
 returns-2 : tie.Need-returns-2
-returns-2 c = ?
+returns-2 c = view-refused _ _ _ _ (c .before .before .before .check .ensures) (c .before .k .given .1)
 
--- src/open.rt:91:1
 returns-3 : tie.Need-returns-3
-returns-3 c = ?
+returns-3 c = let a = c .before .before .before .before .before .before .before .before .before .before .before .args in view-told _ _ _ _ (c .before .before .before .before .before .check .ensures) (c .before .before .before .enum-told .given .1) (sym (such-told (a .h) _ _ _ _ _ _ _ (c .before .before .no-such .ensures)) ∙ c .before .if1 .left) (c .view-of .ensures)
 
 pub view-spec : {M : Type 1} → statement M
 view-spec =

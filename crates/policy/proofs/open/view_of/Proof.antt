@@ -1,54 +1,40 @@
+-- `policy::open::view_of` meets its contract. Assumes nothing.
+use Rattle.layer.specs.Laid.{resourceIs}
+use Rattle.policy.proofs.ReadyLaws.{sizes}
+use Rattle.policy.proofs.OpenLaws.{user-below, inner-kept, inner-there, outer-there, viewed-is}
 use borrow.Author.Needs.{needs}
 use Rattle.policy.proofs.open.view_of.Statement.{statement}
 use Rattle.policy.proofs.open.view_of.Tie as tie
-use Rattle.policy.proofs.open.view_of.Reads as reads
-use Rattle.policy.proofs.open.view_of.Lts as lts
-use Rattle.layer.proofs.table.resource_in.Reads as resource-in-reads
-use Rattle.policy.proofs.judge.all_holders.Reads as all-holders-reads
-use Rattle.policy.proofs.open.outer_known.Reads as outer-known-reads
-use Rattle.policy.proofs.open.view_by.Reads as view-by-reads
-use Rattle.policy.proofs.plan.inner_shape.Reads as inner-shape-reads
-use Rattle.sets.proofs.Users.has.Reads as has-reads
 
--- src/open.rt:85:29
 cast-resource-in : tie.Need-cast-resource-in
 cast-resource-in c = search needs
 
--- src/open.rt:85:53
 cast-resource-in-2 : tie.Need-cast-resource-in-2
 cast-resource-in-2 c = search needs
 
--- src/open.rt:85:9
 resource-in-requires : tie.Need-resource-in-requires
-resource-in-requires c κs = ?
+resource-in-requires c κs = let s = c .before .before .before .before .before .before .before in (sizes _ _ _ _ _ _ (s .pre .0) .room .resources, s .pre .1 .1)
 
--- src/open.rt:86:37
 inner-shape-requires : tie.Need-inner-shape-requires
 inner-shape-requires c κs = search needs
 
--- src/open.rt:86:17
 all-holders-requires : tie.Need-all-holders-requires
-all-holders-requires c κs = ?
+all-holders-requires c κs = let s = c .before .before .before .before .before .before .before .before .before in (inner-kept _ _ _ _ _ _ (s .pre .0) (c .inner-shape .ensures) .laid, inner-there _ _ _ _ _ _ (s .pre .0) (s .args .u .0) _ (s .pre .1 .1) {x = resourceIs (c .before .resource-in .result)} (c .before .resource-in .ensures) (c .inner-shape .ensures))
 
--- src/open.rt:86:9
 has-requires : tie.Need-has-requires
-has-requires c κs = ?
+has-requires c κs = let s = c .before .before .before .before .before .before .before .before .before .before in user-below _ _ _ _ _ _ (s .pre .0) (s .pre .1 .0)
 
--- src/open.rt:87:33
 cast-outer-known : tie.Need-cast-outer-known
 cast-outer-known c = search needs
 
--- src/open.rt:87:9
 outer-known-requires : tie.Need-outer-known-requires
-outer-known-requires c κs = ?
+outer-known-requires c κs = let s = c .before .before .before .before .before .before .before .before .before .before .before .before in (sizes _ _ _ _ _ _ (s .pre .0) .room .outerVertices, user-below _ _ _ _ _ _ (s .pre .0) (s .pre .1 .0), outer-there _ _ _ _ _ _ (s .pre .0) (s .args .u .0) _ (s .pre .1 .1) {x = resourceIs (c .before .before .before .before .resource-in .result)} (c .before .before .before .before .resource-in .ensures))
 
--- src/open.rt:88:5
 view-by-requires : tie.Need-view-by-requires
 view-by-requires c κs = search needs
 
--- src/open.rt:71:1
 returns : tie.Need-returns
-returns c = ?
+returns c = let s = c .before .before .before .before .before .before .before .before .before .before .before .before .before .before in viewed-is _ _ _ _ _ _ (s .pre .0) _ _ (s .pre .1 .1) {x = resourceIs (c .before .before .before .before .before .before .resource-in .result)} (c .before .before .before .before .before .before .resource-in .ensures) (c .before .before .before .before .before .inner-shape .ensures) (c .before .before .before .before .all-holders .ensures) (c .before .before .before .has .ensures) (c .before .outer-known .ensures) (c .view-by .ensures)
 
 pub view-of-spec : {M : Type 1} → statement M
 view-of-spec =
