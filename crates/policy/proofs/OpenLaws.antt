@@ -1,21 +1,20 @@
 -- View and open, by the answers of what they call: the view, the lengths of the chains, the rows in the list, and the refusals.
 -- Assumes nothing.
-use Prim.Native.Nat.{ℕ, zero, suc, _+_, _-_, _≤_, _<_}
+use Prim.Native.Nat.{ℕ, _+_, _-_, _≤_, _<_}
 use mathlib.Core.Path.{_≡_, refl, sym, ap, ap₂, _∙_}
-use mathlib.Core.Bool.{Bool, true, false, _&&_, _||_, not, cond}
+use mathlib.Core.Bool.{Bool, true, false, _&&_, not}
 use mathlib.Core.Logic.{_⊎_, inl, inr, _≢_}
 use mathlib.Core.List.{List, [], _∷_, _++_, append-nil}
 use mathlib.Core.Option.{Option, some, none}
-use native.Mathlib.Nat.{zero-add}
 use native.Mathlib.Omega.{arith}
 use lib.Dec.{eqb, ltb}
-use lib.ListN.{length, take, drop, getD, set, length-append, length-take, length-drop, drop-of-length-le}
-use lib.Seq.{take-all, drop-drop}
+use lib.ListN.{length, take, drop, getD, set, length-append, length-take, length-drop}
 use borrow.Author.Tests.{eq-eqb, ne-eqb, lt-ltb, le-ltb, ltb-false}
 use borrow.Rule.Slice.PartMut.{putMid}
 use Rattle.sets.specs.Sets.{has}
 use Rattle.rows.specs.Number.{stored}
-use Rattle.rows.proofs.Laws.{stored-add, stored-sets, stored-none, length-stored}
+use Rattle.rows.proofs.Part.{stored-part}
+use Rattle.rows.proofs.Laws.{stored-add, stored-sets, length-stored}
 use Rattle.rules.specs.Layer.{Layer, setOf}
 use Rattle.rules.specs.Book.{Book, Resource, resource, hasOuter}
 use Rattle.rules.specs.Book as book
@@ -23,14 +22,14 @@ use Rattle.rules.specs.Holders.{holders, holdersOf, innerKnown, outerKnown, vie
 use Rattle.rules.specs.Derivation.{Opens}
 use Rattle.rules.specs.Open.{chain, direct, innerChain, outerChain}
 use Rattle.rules.specs.Bytes.{Tables, tables, bookIn, setsIn, resourcesIn}
-use Rattle.rules.specs.Sound.{sound, maxUsers}
-use Rattle.rules.specs.Refusals.{short, common, verdict, noSuch, opened, viewNumber, refusalView, refusalOpen}
-use Rattle.rules.specs.Calls.{viewCall, viewCallBy, Shown, showing, openBy, openCall}
+use Rattle.rules.specs.Sound.{sound}
+use Rattle.rules.specs.Refusals.{common, verdict, noSuch, opened, viewNumber, refusalView, refusalOpen}
+use Rattle.rules.specs.Calls.{viewCall, viewCallBy, showing, openBy, openCall}
 use Rattle.rules.specs.declared.Head.{Head}
 use Rattle.rules.specs.declared.View.{View}
 use Rattle.rules.specs.declared.View.the-variants.{Open, SelLocked, BelLocked, Locked}
 use Rattle.rules.specs.declared.Refusal.{Refusal}
-use Rattle.rules.specs.declared.Refusal.the-variants.{ShortTable, Unsound, NoSuch, Closed, ShortList}
+use Rattle.rules.specs.declared.Refusal.the-variants.{NoSuch, Closed, ShortList}
 use Rattle.rules.specs.declared.Viewed.the-variants as viewed
 use Rattle.rules.specs.declared.Opened.the-variants as shown
 use Rattle.theorems.proofs.LayerLaws.{Layered}
@@ -57,16 +56,16 @@ use Rattle.policy.specs.Open.{lengthsOf, openableBy, openable, ownOpen, 
 use Rattle.policy.specs.declared.open.Lengths.{Lengths}
 use Rattle.policy.specs.declared.open.Openable.{Openable}
 use Rattle.policy.specs.declared.open.Openable.the-variants.{Go, No}
-use Rattle.policy.proofs.ReadyLaws.{layered-laid, bookOf, Sizes, sizes, resources-count, outer-count, inner-count, inner-tokens-count, users-count, inner-layer, row-read, such-told, inner-laid, row-inner}
+use Rattle.policy.proofs.ReadyLaws.{layered-laid, bookOf, Sizes, sizes, resources-count, outer-count, inner-tokens-count, users-count, inner-layer, row-read, such-told, inner-laid, row-inner}
 use Rattle.policy.proofs.JudgeLaws.{verdict-first}
 
 -- ---- one chain, in its own layer
 
--- the answer s is the vertex's set, and z that it names u
-pub set-names : (l : Shape) (ts vs : List ℕ) (u v : ℕ) {s : ℕ} {z : Bool} → s ≡ getD (setsIn (l .vertices) vs) v 0 → z ≡ has s u
-    → z ≡ has (setOf (layerOf l ts vs) v) u
+-- s is the vertex's set, and z whether it names u
+pub names-told : (l : Shape) (ts vs : List ℕ) (u v : ℕ) {s : ℕ} {z w : Bool} → s ≡ getD (setsIn (l .vertices) vs) v 0 → z ≡ has s u → z ≡ w
+    → has (setOf (layerOf l ts vs) v) u ≡ w
 unfolding setOf layerOf
-set-names l ts vs u v e q = q ∙ ap (λ (s : ℕ). has s u) e
+names-told l ts vs u v es ez e = ap (λ (s : ℕ). has s u) (sym es) ∙ sym ez ∙ e
 
 module _ (L : Layer) (u v : ℕ) where
   pub inner-chained : has (setOf L v) u ≡ true → chain L u v ≡ innerRows L u v
@@ -95,20 +94,6 @@ module _ (i : Shape) (L : Layer) (u v : ℕ) (lets : LetIn i L u v) (lacks : has
 pub row-written : (k : ℕ) (rows list : List ℕ) → k ∷ [] ≡ rows → 0 < length list → set list 0 k ≡ stored 0 rows list
 row-written k rows list e l = stored-sets 0 (k ∷ []) list (omega arith) ∙ ap (λ (x : List ℕ). stored 0 x list) e
 
--- a store in the part behind `at`, as a store in the whole
-pub stored-part : (at : ℕ) (bs t ys : List ℕ) → at ≤ length t → ys ≡ stored 0 bs (take (length t - at) (drop at t)) → putMid at (length t - at) t ys ≡ stored at bs t
-unfolding stored
-stored-part at bs t ys l e =
-    let n : length (drop at t) ≤ length t - at = simp length-drop (omega arith) in
-    rw (
-      e,
-      take-all (length t - at) (drop at t) n,
-      drop-of-length-le (drop at t) {i = length t - at} n,
-      append-nil,
-      zero-add,
-      drop-drop,
-    )
-
 -- whether the outer key is known
 module _ (n : ℕ) (vs : List ℕ) (u v : ℕ) where
   pub known-none : v ≡ book.none → true ≡ knownIn (setsOnly n vs) u v
@@ -135,6 +120,10 @@ module _ (h : Head) (iv it ov ot rs : List ℕ) where
   pub outer-layer : layerOf (outerShape h) ot ov ≡ b .outer
   unfolding bookIn layerOf
   outer-layer = refl
+
+  -- z is the code's test for 1
+  pub such-is : {z w : Bool} (r u : ℕ) → z ≡ not (ltb u (h .users .0) && ltb r (h .resources .0)) → z ≡ w → noSuch b u r ≡ w
+  such-is r u ez e = sym (such-told h iv it ov ot rs r u ez) ∙ e
 
   module _ (ready : Ready h t) where
     pub user-below : {u : ℕ} → u < h .users .0 → u < 64

@@ -11,12 +11,11 @@ use Rattle.sets.specs.Sets.{has}
 use Rattle.rules.specs.Layer.{Layer, setOf}
 use Rattle.rules.specs.Book.{Book}
 use Rattle.rules.specs.Book as book
-use Rattle.rules.specs.Holders.{holders, view}
+use Rattle.rules.specs.Holders.{view}
 use Rattle.rules.specs.Open.{chain, direct, innerChain, outerChain}
 use Rattle.rules.specs.Bytes.{Tables, bookIn}
 use Rattle.rules.specs.Refusals.{verdict, noSuch, opened, viewNumber}
 use Rattle.rules.specs.declared.Head.{Head}
-use Rattle.rules.specs.declared.View.{View}
 use Rattle.rules.specs.declared.View.the-variants.{Open}
 use Rattle.rules.specs.declared.Refusal.{Refusal}
 use Rattle.rules.specs.declared.Refusal.the-variants.{NoSuch, Closed, ShortList}

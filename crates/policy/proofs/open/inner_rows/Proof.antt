@@ -1,9 +1,9 @@
 -- `policy::open::inner_rows` meets its contract. Assumes nothing.
 use Prim.Native.Nat.{ℕ, _<_}
-use mathlib.Core.Path.{_≡_, sym, ap, _∙_}
+use mathlib.Core.Path.{_≡_, ap, _∙_}
 use mathlib.Core.List.{List, [], _∷_}
 use Rattle.rows.specs.Number.{stored}
-use Rattle.policy.proofs.OpenLaws.{set-names, inner-chained, direct-there, direct-found, row-written}
+use Rattle.policy.proofs.OpenLaws.{names-told, inner-chained, direct-there, direct-found, row-written}
 use native.Mathlib.Omega.{arith}
 use lib.ListN.{length}
 use Rattle.layer.specs.Laid.{layerOf}
@@ -17,7 +17,7 @@ found : (c : tie.After-known-told) →
     let s = c .before .before .before .before .before .before .before .before .before .before in
     let row = c .before .row .given .0 .0 in
     (row < s .args .i .tokens) × (row ∷ [] ≡ innerRows (layerOf (s .args .i) (s .args .it .now) (s .args .iv .now)) (s .args .u .0) (s .args .v))
-found c = let s = c .before .before .before .before .before .before .before .before .before .before in direct-found (s .args .i) _ _ _ (s .pre .1 .0 .2) (sym (set-names (s .args .i) _ _ _ _ (c .before .before .before .before .before .before .set-of .ensures) (c .before .before .before .before .before .has .ensures)) ∙ c .before .before .before .before .if1 .left) (c .before .before .before .find-direct .ensures) (c .before .row .given .1)
+found c = let s = c .before .before .before .before .before .before .before .before .before .before in direct-found (s .args .i) _ _ _ (s .pre .1 .0 .2) (names-told (s .args .i) _ _ _ _ (c .before .before .before .before .before .before .set-of .ensures) (c .before .before .before .before .before .has .ensures) (c .before .before .before .before .if1 .left)) (c .before .before .before .find-direct .ensures) (c .before .row .given .1)
 
 set-of-requires : tie.Need-set-of-requires
 set-of-requires c κs = search needs
@@ -26,13 +26,13 @@ has-requires : tie.Need-has-requires
 has-requires c κs = search needs
 
 chain-rows-requires : tie.Need-chain-rows-requires
-chain-rows-requires c κs = let s = c .before .before .before .before .before .before .before in let names = sym (set-names (s .args .i) _ _ _ _ (c .before .before .before .set-of .ensures) (c .before .before .has .ensures)) ∙ c .before .if1 .taken in (s .pre .0, ((s .pre .1 .0 .0, s .pre .1 .0 .1, names), rw (inner-chained _ _ _ names) (s .pre .1 .1)))
+chain-rows-requires c κs = let s = c .before .before .before .before .before .before .before in let names = names-told (s .args .i) _ _ _ _ (c .before .before .before .set-of .ensures) (c .before .before .has .ensures) (c .before .if1 .taken) in (s .pre .0, ((s .pre .1 .0 .0, s .pre .1 .0 .1, names), rw (inner-chained _ _ _ names) (s .pre .1 .1)))
 
 same-length : tie.Need-same-length
 same-length c = search needs
 
 returns : tie.Need-returns
-returns c = let s = c .before .before .before .before .before .before .before .before .before .before in c .before .before .chain-rows .ensures .1 ∙ ap (λ (x : List ℕ). stored 0 x (s .args .list .now)) (inner-chained _ _ _ (sym (set-names (s .args .i) _ _ _ _ (c .before .before .before .before .before .before .set-of .ensures) (c .before .before .before .before .before .has .ensures)) ∙ c .before .before .before .before .if1 .taken))
+returns c = let s = c .before .before .before .before .before .before .before .before .before .before in c .before .before .chain-rows .ensures .1 ∙ ap (λ (x : List ℕ). stored 0 x (s .args .list .now)) (inner-chained _ _ _ (names-told (s .args .i) _ _ _ _ (c .before .before .before .before .before .before .set-of .ensures) (c .before .before .before .before .before .has .ensures) (c .before .before .before .before .if1 .taken)))
 
 find-direct-requires : tie.Need-find-direct-requires
 find-direct-requires c κs = search needs
@@ -44,7 +44,7 @@ enum-told : tie.Need-enum-told
 enum-told c = search needs
 
 returns-2 : tie.Need-returns-2
-returns-2 c = let s = c .before .before .before .before .before .before .before .before .before in absurd (direct-there (s .args .i) _ _ _ (s .pre .1 .0 .2) (sym (set-names (s .args .i) _ _ _ _ (c .before .before .before .before .before .set-of .ensures) (c .before .before .before .before .has .ensures)) ∙ c .before .before .before .if1 .left) (c .before .before .find-direct .ensures) (c .enum-told .given .1))
+returns-2 c = let s = c .before .before .before .before .before .before .before .before .before in absurd (direct-there (s .args .i) _ _ _ (s .pre .1 .0 .2) (names-told (s .args .i) _ _ _ _ (c .before .before .before .before .before .set-of .ensures) (c .before .before .before .before .has .ensures) (c .before .before .before .if1 .left)) (c .before .before .find-direct .ensures) (c .enum-told .given .1))
 
 cast-list : tie.Need-cast-list
 cast-list c = omega (arith, found c .0, c .before .before .before .before .before .before .before .before .before .before .pre .0 .laid .few)
