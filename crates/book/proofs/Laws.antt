@@ -1,12 +1,11 @@
 -- The book's bytes as code reads and writes them: sections cut out of them, and stores one behind the other. Assumes nothing.
 use Prim.Native.Nat.{ℕ, suc, _+_, _*_, _-_, _≤_, _<_}
 use mathlib.Core.Path.{_≡_, refl, sym, ap, ap₂, subst, _∙_}
-use mathlib.Core.List.{List, [], _∷_, _++_, append-nil}
-use native.Mathlib.Nat.{mod-eq-of-lt, zero-add}
+use mathlib.Core.List.{List, [], _∷_, _++_}
+use native.Mathlib.Nat.{mod-eq-of-lt}
 use native.Mathlib.Omega.{arith}
-use lib.ListN.{length, getD, take, drop, length-append, length-drop, drop-of-length-le}
-use lib.Seq.{sets, take-all, length-take-le, drop-drop}
-use borrow.Rule.Slice.PartMut.{putMid}
+use lib.ListN.{length, getD, take, drop, length-append}
+use lib.Seq.{sets, length-take-le}
 use Rattle.rows.specs.Number.{bytesOf, stored}
 use Rattle.rows.proofs.Laws.{stored-add, stored-sets, length-stored}
 use Rattle.rules.specs.Bytes.{Bytes, widths, Tables, tables, header, headIn, counts, total, start, section, sections, read, laid, bookIn, write}
@@ -24,20 +23,6 @@ pub sets-behind : (k : ℕ) (a b t u v : List ℕ) → length a ≡ k → k + le
 sets-behind k a b t u v e l p q =
     let n : length u ≡ length t = ap length p ∙ length-stored 0 a t (omega arith) in
     stored-behind k a b t u v e l p (q ∙ stored-sets k b u (omega arith))
-
--- a store in the part behind `at`, as a store in the whole
-pub stored-part : (at : ℕ) (bs t ys : List ℕ) → at ≤ length t → ys ≡ stored 0 bs (take (length t - at) (drop at t)) → putMid at (length t - at) t ys ≡ stored at bs t
-unfolding stored
-stored-part at bs t ys l e =
-    let n : length (drop at t) ≤ length t - at = simp length-drop (omega arith) in
-    rw (
-      e,
-      take-all (length t - at) (drop at t) n,
-      drop-of-length-le (drop at t) {i = length t - at} n,
-      append-nil,
-      zero-add,
-      drop-drop,
-    )
 
 -- the stores of a header
 pub header-stored : (h : Head) (t a b c d e f : List ℕ) → 17 ≤ length t → h .mode .0 < 256 → h .users .0 < 256

@@ -10,3 +10,4 @@ pub mod GrantWorks
 pub mod GrantLaws
 pub mod GrantSteps
 pub mod InsertLaws
+pub mod OpenLaws

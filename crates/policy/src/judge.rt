@@ -86,7 +86,7 @@ fn rows_after(h: Head, tokens: usize, orders: usize, p: Part) -> After
 }
 
 // Whether the user or the resource does not exist.
-fn no_such(h: Head, r: Resource, u: User) -> bool
+pub fn no_such(h: Head, r: Resource, u: User) -> bool
     ensures { λ b. ⌜ b ≡ not (ltb (u .0) (h .users .0) && ltb (r .0) (h .resources .0)) ⌝ }
 {
     if u.0 >= h.users.0 {
@@ -193,7 +193,7 @@ pub fn judge_join(
 // ---- insert
 
 // The holders of inner vertex v.
-fn all_holders(iv: &[u8], it: &[u8], i: Shape, v: u16) -> Users
+pub fn all_holders(iv: &[u8], it: &[u8], i: Shape, v: u16) -> Users
     requires { ⌜ Laid i (now it) (now iv) ⌝ }
     requires { ⌜ v < i .vertices ⌝ }
     ensures { λ r. ⌜ r .0 ≡ holders (layerOf i (now (it .entry)) (now (iv .entry))) v ⌝ }

@@ -2,6 +2,7 @@
 pub mod apply;
 pub mod grant;
 pub mod judge;
+pub mod open;
 pub mod plan;
 pub mod step;
 pub mod write;

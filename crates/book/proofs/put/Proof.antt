@@ -1,7 +1,7 @@
 -- `book::put` meets its contract. Assumes nothing.
 use native.Mathlib.Omega.{arith}
 use lib.ListN.{take, length-take, length-drop}
-use Rattle.book.proofs.Laws.{stored-part}
+use Rattle.rows.proofs.Part.{stored-part}
 use borrow.Author.Needs.{needs}
 use Rattle.book.proofs.put.Statement.{statement}
 use Rattle.book.proofs.put.Tie as tie
