@@ -4,6 +4,6 @@ pub mod grant;
 pub mod judge;
 pub mod open;
 pub mod plan;
+pub mod requests;
 pub mod step;
 pub mod write;
-pub mod requests;

@@ -1,19 +1,36 @@
 // The requests that change the book, as calls: each makes every check itself, then plans, then applies.
 // The five tables are iv, it, ov, ot, rs: inner vertices and tokens, outer vertices and tokens, resources. Order rows are three numbers each.
-use crate::apply::{apply_insert, apply_join, apply_revoke};
+use crate::apply::apply_insert;
+use crate::apply::apply_join;
+use crate::apply::apply_revoke;
 use crate::grant::apply_grant;
-use crate::judge::{judge_grant, judge_insert, judge_join, judge_revoke};
+use crate::judge::judge_grant;
+use crate::judge::judge_insert;
+use crate::judge::judge_join;
+use crate::judge::judge_revoke;
 use crate::plan::Judged;
-use rules::{Changed, Head, Resource};
-use sets::{User, Users};
-use sound::{check, Checked};
+use rules::Changed;
+use rules::Head;
+use rules::Resource;
+use sets::User;
+use sets::Users;
+use sound::Checked;
+use sound::check;
 ghost use mathlib.Core.Path.{_≡_};
 ghost use Rattle.rules.specs.Bytes.{tables};
 ghost use Rattle.rules.specs.Refusals.{joins, inserts, grants, revokes};
 ghost use Rattle.rules.specs.Calls.{change, changing};
 
 // A new user: a vertex in both layers.
-pub fn join(h: Head, iv: &mut [u8], it: &mut [u8], ov: &mut [u8], ot: &mut [u8], rs: &mut [u8], orders: &mut [u16]) -> Changed
+pub fn join(
+    h: Head,
+    iv: &mut [u8],
+    it: &mut [u8],
+    ov: &mut [u8],
+    ot: &mut [u8],
+    rs: &mut [u8],
+    orders: &mut [u16],
+) -> Changed
     ensures { λ c. ⌜ changing c (tables (now (iv .exit)) (now (it .exit)) (now (ov .exit)) (now (ot .exit)) (now (rs .exit))) (now (orders .exit)) ≡ change joins h (tables (now (iv .entry)) (now (it .entry)) (now (ov .entry)) (now (ot .entry)) (now (rs .entry))) (now (orders .entry)) ⌝ }
 {
     let k = check(h, iv, it, ov, ot, rs);
@@ -34,7 +51,16 @@ pub fn join(h: Head, iv: &mut [u8], it: &mut [u8], ov: &mut [u8], ot: &mut [u8],
 }
 
 // A new resource for a list of users.
-pub fn insert(h: Head, iv: &mut [u8], it: &mut [u8], ov: &mut [u8], ot: &mut [u8], rs: &mut [u8], orders: &mut [u16], l: Users) -> Changed
+pub fn insert(
+    h: Head,
+    iv: &mut [u8],
+    it: &mut [u8],
+    ov: &mut [u8],
+    ot: &mut [u8],
+    rs: &mut [u8],
+    orders: &mut [u16],
+    l: Users,
+) -> Changed
     ensures { λ c. ⌜ changing c (tables (now (iv .exit)) (now (it .exit)) (now (ov .exit)) (now (ot .exit)) (now (rs .exit))) (now (orders .exit)) ≡ change (inserts (l .0)) h (tables (now (iv .entry)) (now (it .entry)) (now (ov .entry)) (now (ot .entry)) (now (rs .entry))) (now (orders .entry)) ⌝ }
 {
     let k = check(h, iv, it, ov, ot, rs);
@@ -55,7 +81,17 @@ pub fn insert(h: Head, iv: &mut [u8], it: &mut [u8], ov: &mut [u8], ot: &mut [u8
 }
 
 // User u joins the list of r.
-pub fn grant(h: Head, iv: &mut [u8], it: &mut [u8], ov: &mut [u8], ot: &mut [u8], rs: &mut [u8], orders: &mut [u16], r: Resource, u: User) -> Changed
+pub fn grant(
+    h: Head,
+    iv: &mut [u8],
+    it: &mut [u8],
+    ov: &mut [u8],
+    ot: &mut [u8],
+    rs: &mut [u8],
+    orders: &mut [u16],
+    r: Resource,
+    u: User,
+) -> Changed
     ensures { λ c. ⌜ changing c (tables (now (iv .exit)) (now (it .exit)) (now (ov .exit)) (now (ot .exit)) (now (rs .exit))) (now (orders .exit)) ≡ change (grants (r .0) (u .0)) h (tables (now (iv .entry)) (now (it .entry)) (now (ov .entry)) (now (ot .entry)) (now (rs .entry))) (now (orders .entry)) ⌝ }
 {
     let k = check(h, iv, it, ov, ot, rs);
@@ -76,7 +112,17 @@ pub fn grant(h: Head, iv: &mut [u8], it: &mut [u8], ov: &mut [u8], ot: &mut [u8]
 }
 
 // User u leaves the list of r.
-pub fn revoke(h: Head, iv: &mut [u8], it: &mut [u8], ov: &mut [u8], ot: &mut [u8], rs: &mut [u8], orders: &mut [u16], r: Resource, u: User) -> Changed
+pub fn revoke(
+    h: Head,
+    iv: &mut [u8],
+    it: &mut [u8],
+    ov: &mut [u8],
+    ot: &mut [u8],
+    rs: &mut [u8],
+    orders: &mut [u16],
+    r: Resource,
+    u: User,
+) -> Changed
     ensures { λ c. ⌜ changing c (tables (now (iv .exit)) (now (it .exit)) (now (ov .exit)) (now (ot .exit)) (now (rs .exit))) (now (orders .exit)) ≡ change (revokes (r .0) (u .0)) h (tables (now (iv .entry)) (now (it .entry)) (now (ov .entry)) (now (ot .entry)) (now (rs .entry))) (now (orders .entry)) ⌝ }
 {
     let k = check(h, iv, it, ov, ot, rs);
