@@ -9,7 +9,7 @@ use native.Mathlib.Omega.{arith}
 use lib.Dec.{eqb, ltb}
 use lib.ListN.{length, getD, length-append}
 use borrow.Author.Tests.{eq-eqb, ne-eqb, lt-ltb, le-ltb, le-leb, lt-leb, eqb-false}
-use Rattle.sets.specs.Sets.{has, single, union, minus}
+use Rattle.sets.specs.Sets.{has, single, minus}
 use Rattle.rules.specs.Lists.{keep, upTo}
 use Rattle.rules.specs.Layer.{Layer, found, vertexFor, cover, withVertex}
 use Rattle.rules.specs.Book.{Book, Resource, resource, hasOuter}
