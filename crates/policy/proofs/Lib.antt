@@ -1,4 +1,8 @@
 pub mod WriteLaws
+<<<<<<< HEAD
 pub mod ReadyLaws
 pub mod PartLaws
 pub mod JudgeLaws
+=======
+pub mod WaitLaws
+>>>>>>> prows

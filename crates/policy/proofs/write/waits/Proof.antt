@@ -1,12 +1,9 @@
 -- `policy::write::waits` meets its contract. Assumes nothing.
 use Rattle.layer.specs.Laid.{resourceIs}
-use Rattle.policy.proofs.WriteLaws.{itself, same-vertex, other-vertex}
+use Rattle.policy.proofs.WaitLaws.{itself, same-vertex, other-vertex}
 use borrow.Author.Needs.{needs}
 use Rattle.policy.proofs.write.waits.Statement.{statement}
 use Rattle.policy.proofs.write.waits.Tie as tie
-use Rattle.policy.proofs.write.waits.Reads as reads
-use Rattle.policy.proofs.write.waits.Lts as lts
-use Rattle.layer.proofs.table.resource_in.Reads as resource-in-reads
 
 returns : tie.Need-returns
 returns c = itself _ _ _ _ _ (c .if1 .taken)
