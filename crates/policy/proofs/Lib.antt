@@ -1,8 +1,5 @@
 pub mod WriteLaws
-<<<<<<< HEAD
+pub mod WaitLaws
 pub mod ReadyLaws
 pub mod PartLaws
 pub mod JudgeLaws
-=======
-pub mod WaitLaws
->>>>>>> prows
