@@ -1,15 +1,15 @@
 -- The plan of each request is what the table of refusals and the rules on unlimited tables give.
 -- Assumes nothing.
-use Prim.Native.Nat.{ℕ, suc, _+_, _*_, _^_, _≤_, _<_}
+use Prim.Native.Nat.{ℕ, suc, _+_, _^_, _≤_, _<_}
 use mathlib.Core.Path.{_≡_, refl, sym, ap, ap₂, _∙_, subst}
-use mathlib.Core.Bool.{Bool, true, false, _&&_, _||_, not, cond}
+use mathlib.Core.Bool.{Bool, true, false, _&&_, not, cond}
 use mathlib.Core.List.{List, [], _∷_, _++_}
 use mathlib.Core.Option.{Option, some, none}
 use native.Mathlib.Omega.{arith}
-use lib.Dec.{eqb, ltb, leb}
+use lib.Dec.{eqb, ltb}
 use lib.ListN.{length, getD, length-append}
-use borrow.Author.Tests.{eq-eqb, ne-eqb, lt-ltb, le-ltb, le-leb, lt-leb, ltb-true, eqb-false}
-use Rattle.sets.specs.Sets.{has, single, union, minus}
+use borrow.Author.Tests.{eq-eqb, ne-eqb, lt-ltb, le-ltb, le-leb, lt-leb, eqb-false}
+use Rattle.sets.specs.Sets.{has, single, minus}
 use Rattle.rules.specs.Lists.{keep, upTo}
 use Rattle.rules.specs.Layer.{Layer, found, vertexFor, cover, withVertex}
 use Rattle.rules.specs.Book.{Book, Resource, resource, hasOuter}
@@ -17,14 +17,13 @@ use Rattle.rules.specs.Book as book
 use Rattle.rules.specs.Holders.{holders, holdersOf}
 use Rattle.rules.specs.Sound.{sound}
 use Rattle.rules.specs.Requests.{Done, done, join, withSet, insert}
-use Rattle.rules.specs.Bytes.{Tables, tables, bookIn, resourcesIn}
+use Rattle.rules.specs.Bytes.{tables, bookIn, resourcesIn}
 use Rattle.rules.specs.Refusals.{Request, joins, inserts, grants, revokes, verdict, noSuch, own, limits, work}
 use Rattle.rules.specs.Runs.{access, listed}
 use Rattle.rules.specs.declared.Head.{Head}
 use Rattle.rules.specs.declared.Refusal.{Refusal}
 use Rattle.rules.specs.declared.Refusal.the-variants.{NoSuch, EmptyList, UsersFull, ResourcesFull, Listed, NotListed, ShortList}
 use Rattle.theorems.specs.Plan.{newVertices, newTokens, insertFree, agreed, waits, waiters, ifAny, grantedList, revokedList}
-use Rattle.theorems.proofs.SoundLaws.{Counts, sound-counts}
 use Rattle.theorems.proofs.RequestLaws.{Rows, such}
 use Rattle.theorems.proofs.AccessLaws.{users-of, work-access}
 use Rattle.theorems.proofs.CountLaws.{withVertex-vertices, withVertex-tokens}
@@ -39,8 +38,8 @@ use Rattle.policy.specs.declared.plan.Judged.the-variants.{Go, No}
 use Rattle.policy.specs.declared.judge.After.{After}
 use Rattle.policy.specs.declared.judge.Part.{Part}
 use Rattle.policy.specs.Write.{waitsIn, waitersIn}
-use Rattle.policy.specs.Judge.{Ready, plan, planOf, judgedBy, judged, limited, holdersAre, innerShape, part, lockPart, settledPart, groupPart, joint, afterOf, waitersOf, grantPlan}
-use Rattle.policy.proofs.ReadyLaws.{bookOf, Sizes, sizes, users-count, mode-count, resources-count, outer-count, inner-tokens-count, outer-tokens-count, outer-new, inner-new, inner-layer, row-read, such-told}
+use Rattle.policy.specs.Judge.{Ready, plan, planOf, judgedBy, judged, limited, holdersAre, innerShape, part, lockPart, settledPart, groupPart, joint, afterOf, waitersOf, grantPart, grantPlan}
+use Rattle.policy.proofs.ReadyLaws.{bookOf, Sizes, sizes, users-count, mode-count, resources-count, outer-count, inner-tokens-count, outer-tokens-count, inner-new, row-read, such-told}
 
 -- ---- the verdict
 
@@ -339,14 +338,13 @@ module _ (h : Head) (iv it ov ot rs : List ℕ) where
               after : a ≡ afterOf h 0 0 (lockPart (b .outer) (revokedList r u b) 1)
               after = ea ∙ ap (afterOf h 0 0) (es ∙ lock-in l 1 ∙ ap (λ (k : ℕ). lockPart (b .outer) k 1) (el ∙ ap (λ (w : Resource). minus (w .list) (single u)) row))
 
-          pub grant-judged : {l : ℕ} {p : Plan} {s : Part} {a : After} {j : Judged} → y ≡ false
+          pub grant-judged : {p : Plan} {s : Part} {a : After} {j : Judged} → y ≡ false
               → p ≡ grantPlan (h .mode .0) (holders (layerOf (innerShape h) it iv) (x .inner)) (x .list) u
-              → l ≡ union (x .list) (single u)
-              → s ≡ joint (groupPart (length (waitersOf h rs r (x .inner) p)) sets (p .holders .0)) (settledPart (p .free) (x .outer) sets l)
+              → s ≡ grantPart h ov rs r u x p
               → a ≡ afterOf h (cond (p .token) 1 0) (cond (p .token) 1 0) s
               → j ≡ limited a room p → j ≡ judged (grants r u) b room
-          unfolding planOf
-          grant-judged {l} {p} {s} {a} e ep el es ea ej =
+          unfolding planOf grantPart
+          grant-judged {p} {s} {a} e ep es ea ej =
               ej
               ∙ judged-limited (grants r u) b room a p (grant-passed e)
               (subst (Leaves (work (grants r u) b)) (sym after) (grant-leaves r u (such b u r exists .1) (such b u r exists .0) (test e))) planned
@@ -357,7 +355,7 @@ module _ (h : Head) (iv it ov ot rs : List ℕ) where
               parted : s ≡ joint (groupPart (length (waiters b r u)) (b .outer) (holdersOf b r)) (settledPart (agreed r u b) (resource b r .outer) (b .outer) (grantedList r u b))
               parted =
                   es
-                  ∙ rw (planned, el, row, waiters-in r u, group-in (length (waiters b r u)) (holdersOf b r), settled-in (agreed r u b) (resource b r .outer) (grantedList r u b))
+                  ∙ rw (planned, row, waiters-in r u, group-in (length (waiters b r u)) (holdersOf b r), settled-in (agreed r u b) (resource b r .outer) (grantedList r u b))
 
               after : a ≡ afterOf h (cond (not (has (holdersOf b r) u)) 1 0) (cond (not (has (holdersOf b r) u)) 1 0)
                   (joint (groupPart (length (waiters b r u)) (b .outer) (holdersOf b r)) (settledPart (agreed r u b) (resource b r .outer) (b .outer) (grantedList r u b)))

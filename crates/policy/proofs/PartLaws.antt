@@ -12,8 +12,9 @@ use lib.ListN.{length}
 use borrow.Author.Tests.{eq-eqb, ne-eqb, lt-ltb, le-ltb, le-leb, lt-leb, ltb-true, ltb-false, not-false}
 use Rattle.sets.specs.Sets.{has, single, union}
 use Rattle.sets.proofs.Laws.{both}
-use Rattle.rules.specs.Lists.{keep, upTo, tabulate, first}
-use Rattle.rules.specs.Layer.{Layer, setOf, found, vertexFor}
+use Rattle.rules.specs.Lists.{upTo, first}
+use Rattle.rules.specs.Layer.{Layer, setOf}
+use Rattle.rules.specs.Book.{Resource}
 use Rattle.rules.specs.Book as book
 use Rattle.rules.specs.Bytes.{setsIn, resourcesIn}
 use Rattle.rules.specs.Holders.{byToken, holders}
@@ -24,6 +25,7 @@ use Rattle.theorems.specs.Plan.{newVertices, newTokens}
 use Rattle.theorems.proofs.ListLaws.{length-tabulate}
 use Rattle.theorems.proofs.NeighbourLaws.{length-keep}
 use Rattle.layer.specs.Laid.{Laid, layerOf, foundIn, isSet}
+use Rattle.layer.specs.Make.{setsOnly}
 use Rattle.layer.specs.declared.table.Found.{Found}
 use Rattle.layer.specs.declared.table.Found.the-variants.{At, Nothing}
 use Rattle.layer.specs.declared.walk.Shape.{Shape}
@@ -34,7 +36,7 @@ use Rattle.policy.specs.declared.plan.Judged.the-variants.{Go, No}
 use Rattle.policy.specs.declared.judge.After.{After}
 use Rattle.policy.specs.declared.judge.Part.{Part}
 use Rattle.policy.specs.Write.{waitsIn, waitersIn}
-use Rattle.policy.specs.Judge.{plan, judgedBy, limited, holdersAre, innerShape, part, lockPart, settledPart, groupPart, joint, afterOf, waitersOf, grantPlan}
+use Rattle.policy.specs.Judge.{plan, judgedBy, limited, holdersAre, innerShape, part, lockPart, settledPart, groupPart, joint, afterOf, waitersOf, grantPart, grantPlan}
 
 -- ---- 7 to 10
 
@@ -133,6 +135,12 @@ module _ (h : Head) (rs : List ℕ) (r inner : ℕ) (p : Plan) where
   waiting-some e q few c =
       (rw (eq-eqb (h .mode .0) 1 e, q) c, omega (arith, c, waiters-few (h .resources .0) rs r inner (p .holders .0)))
 
+pub grant-parts : (h : Head) (ov rs : List ℕ) (r u : ℕ) (x : Resource) (p : Plan) {l n : ℕ} {s t : Part} → let L = setsOnly (h .«outer_vertices» .0) ov in
+    l ≡ union (x .list) (single u) → s ≡ settledPart (p .free) (x .outer) L l → n ≡ length (waitersOf h rs r (x .inner) p) → t ≡ joint (groupPart n L (p .holders .0)) s
+    → t ≡ grantPart h ov rs r u x p
+unfolding grantPart
+grant-parts h ov rs r u x p el es en et = et ∙ rw (es, en, el)
+
 module _ (h : Head) (token : Bool) (p : Part) {a : After} where
   pub after-token : token ≡ true → a ≡ afterOf h 1 1 p → a ≡ afterOf h (cond token 1 0) (cond token 1 0) p
   after-token e q = rw e q
@@ -191,7 +199,3 @@ module _ (h : Head) (it iv : List ℕ) {i : Shape} (e : i ≡ innerShape h) wher
 
 pub free-full : (m : ℕ) (z : Bool) → m ≢ 1 → false ≡ (eqb m 1 && z)
 free-full m z n = rw (ne-eqb m 1 n)
-
--- the neighbours' part and the folder's
-pub joint-parts : (L : Layer) (s : ℕ) {n k : ℕ} {p q r : Part} → p ≡ q → n ≡ k → r ≡ joint (groupPart n L s) p → r ≡ joint (groupPart k L s) q
-joint-parts L s e m o = o ∙ ap₂ (λ (x : ℕ) (y : Part). joint (groupPart x L s) y) m e

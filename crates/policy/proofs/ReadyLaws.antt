@@ -1,16 +1,16 @@
 -- Tables that are long enough and hold a sound book: their counts and their room, and that what the code reads there is the book's.
 -- Assumes nothing.
 use Prim.Native.Nat.{ℕ, _+_, _*_, _≤_, _<_}
-use mathlib.Core.Path.{_≡_, refl, sym, ap, _∙_, subst}
-use mathlib.Core.Bool.{Bool, true, false, _&&_, not}
-use mathlib.Core.List.{List, []}
+use mathlib.Core.Path.{_≡_, refl, ap, subst}
+use mathlib.Core.Bool.{Bool, _&&_, not}
+use mathlib.Core.List.{List}
 use native.Mathlib.Omega.{arith}
 use lib.Dec.{ltb, lit≤}
 use lib.ListN.{length, getD}
-use Rattle.rules.specs.Layer.{Layer, token, found, vertexFor, cover}
+use Rattle.rules.specs.Layer.{token, found, vertexFor, cover}
 use Rattle.rules.specs.Book.{Book, Resource, resource}
 use Rattle.rules.specs.Open.{tokenAt}
-use Rattle.rules.specs.Bytes.{Tables, tables, bookIn, headOf, Room, resourcesIn}
+use Rattle.rules.specs.Bytes.{Tables, tables, bookIn, Room, resourcesIn}
 use Rattle.rules.specs.Refusals.{noSuch}
 use Rattle.rules.specs.declared.Head.{Head}
 use Rattle.theorems.specs.Plan.{newVertices, newTokens}
@@ -85,19 +85,10 @@ module _ (h : Head) (iv it ov ot rs : List ℕ) where
   mode-count = refl
 
   -- the rows that a vertex adds do not depend on the tokens
-  pub outer-new : (s : ℕ) → (newVertices (setsOnly (h .«outer_vertices» .0) ov) s ≡ newVertices (bookOf .outer) s)
-      × (newTokens (setsOnly (h .«outer_vertices» .0) ov) s ≡ newTokens (bookOf .outer) s)
-  unfolding bookIn newVertices newTokens found vertexFor cover
-  outer-new s = (refl, refl)
-
   pub inner-new : (s : ℕ) → (newVertices (setsOnly (h .«inner_vertices» .0) iv) s ≡ newVertices (bookOf .inner) s)
       × (newTokens (setsOnly (h .«inner_vertices» .0) iv) s ≡ newTokens (bookOf .inner) s)
   unfolding bookIn newVertices newTokens found vertexFor cover
   inner-new s = (refl, refl)
-
-  pub inner-layer : layerOf (innerShape h) it iv ≡ bookOf .inner
-  unfolding bookIn layerOf
-  inner-layer = refl
 
   pub row-read : {x : Resource} (r : ℕ) → x ≡ getD (resourcesIn (h .resources .0) rs) r noResource → x ≡ resource bookOf r
   unfolding bookIn resource

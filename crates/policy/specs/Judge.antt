@@ -6,6 +6,7 @@ use mathlib.Core.Bool.{Bool, true, false, _&&_, _||_, not, cond}
 use mathlib.Core.List.{List, [], _∷_, _++_}
 use mathlib.Core.Option.{Option, some, none}
 use lib.Dec.{eqb, ltb}
+use lib.ListN.{length}
 use Rattle.sets.specs.Sets.{has, single, union}
 use Rattle.rules.specs.Layer.{Layer, found, vertexFor}
 use Rattle.rules.specs.Book.{Book}
@@ -18,6 +19,7 @@ use Rattle.rules.specs.declared.Head.{Head}
 use Rattle.rules.specs.declared.Refusal.{Refusal}
 use Rattle.rules.specs.declared.Refusal.the-variants.{GroupsFull, InnerTokensFull, OuterTokensFull, ShortList}
 use Rattle.layer.specs.declared.walk.Shape.{Shape}
+use Rattle.layer.specs.Make.{setsOnly}
 use Rattle.policy.specs.declared.judge.After.{After}
 use Rattle.policy.specs.declared.judge.Part.{Part}
 use Rattle.theorems.specs.Plan.{newVertices, newTokens, insertFree, agreed}
@@ -109,6 +111,12 @@ afterOf h tokens orders p =
 -- those that a grant with plan p of resource r, with this inner vertex, has to lock
 unfoldable pub waitersOf : Head → List ℕ → ℕ → ℕ → Plan → List ℕ
 waitersOf h rs r inner p = cond (eqb (h .mode .0) 1 && p .token) (waitersIn (resourcesIn (h .resources .0) rs) r inner (p .holders .0)) []
+
+-- the outer part of a grant of r to u with plan p, where x is the row of r: the neighbours, then r itself
+unfoldable pub grantPart : Head → List ℕ → List ℕ → ℕ → ℕ → book.Resource → Plan → Part
+grantPart h ov rs r u x p =
+    let L = setsOnly (h .«outer_vertices» .0) ov in
+    joint (groupPart (length (waitersOf h rs r (x .inner) p)) L (p .holders .0)) (settledPart (p .free) (x .outer) L (union (x .list) (single u)))
 
 -- in mode m, with these holders and this list before
 abbrev pub grantPlan : ℕ → ℕ → ℕ → ℕ → Plan

@@ -31,9 +31,9 @@ ghost use lib.ListN.{length};
 ghost use Rattle.rules.specs.Bytes.{tables, bookIn};
 ghost use Rattle.rules.specs.Holders.{holders};
 ghost use Rattle.rules.specs.Refusals.{joins, inserts, grants, revokes};
-ghost use Rattle.layer.specs.Laid.{Laid, layerOf};
+ghost use Rattle.layer.specs.Laid.{Laid, layerOf, resourceIs};
 ghost use Rattle.layer.specs.Make.{setsOnly};
-ghost use Rattle.policy.specs.Judge.{Ready, judged, limited, holdersAre, innerShape, Few, lockPart, settledPart, groupPart, joint, afterOf, waitersOf, grantPlan};
+ghost use Rattle.policy.specs.Judge.{Ready, judged, limited, holdersAre, innerShape, Few, lockPart, settledPart, groupPart, joint, afterOf, waitersOf, grantPart, grantPlan};
 
 // The rows that a request would leave, and the orders it would give.
 pub struct After {
@@ -323,23 +323,13 @@ fn grant_plan(h: Head, iv: &[u8], it: &[u8], x: ResourceRow, u: User) -> Plan
     }
 }
 
-// The outer part of a grant: the neighbours, then the folder with list `list`.
-fn grant_part(
-    h: Head,
-    ov: &[u8],
-    rs: &[u8],
-    r: Resource,
-    x: ResourceRow,
-    list: Users,
-    p: Plan,
-) -> Part
-    requires { ⌜ (h .«outer_vertices» .0 * 8 ≤ length (now ov)) × (h .resources .0 * 12 ≤ length (now rs)) ⌝ }
-    ensures { λ s. ⌜ s ≡ joint
-        (groupPart (length (waitersOf h (now (rs .entry)) (r .0) (x .inner .0) p)) (setsOnly (h .«outer_vertices» .0) (now (ov .entry))) (p .holders .0))
-        (settledPart (p .free) (x .outer .0) (setsOnly (h .«outer_vertices» .0) (now (ov .entry))) (list .0)) ⌝ }
+// The outer part of a grant: the neighbours, then the folder with its new list.
+fn grant_part(h: Head, ov: &[u8], rs: &[u8], r: Resource, u: User, x: ResourceRow, p: Plan) -> Part
+    requires { ⌜ (h .«outer_vertices» .0 * 8 ≤ length (now ov)) × (h .resources .0 * 12 ≤ length (now rs)) × (u .0 < 64) ⌝ }
+    ensures { λ s. ⌜ s ≡ grantPart h (now (ov .entry)) (now (rs .entry)) (r .0) (u .0) (resourceIs x) p ⌝ }
     ensures { λ s. ⌜ Few s ⌝ }
 {
-    let s = settled(h, ov, p.free, x.outer, list);
+    let s = settled(h, ov, p.free, x.outer, x.list.with(u));
     let n = waiting(h, rs, r, x.inner, p);
     with_neighbours(h, ov, n, p.holders, s)
 }
@@ -377,6 +367,6 @@ pub fn judge_grant(
         return Judged::No(Refusal::Listed);
     }
     let p = grant_plan(h, iv, it, x, u);
-    let s = grant_part(h, ov, rs, r, x, x.list.with(u), p);
+    let s = grant_part(h, ov, rs, r, u, x, p);
     limits(grant_after(h, p.token, s), room, p)
 }

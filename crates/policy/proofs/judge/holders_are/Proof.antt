@@ -12,16 +12,25 @@ enum-known-found : tie.Need-enum-known-found
 enum-known-found c = search needs
 
 cast-all-holders : tie.Need-cast-all-holders
-cast-all-holders c = let s = c .before .before .before .before .before .before in omega (arith, holders-there (s .args .i) (s .args .it .now) _ _ (c .before .before .before .find-set .ensures) (c .before .found .given .1), s .pre .1)
+cast-all-holders c =
+    let find = c .before .before .before in
+    let s = find .before .before .before in
+    omega (arith, holders-there (s .args .i) (s .args .it .now) _ _ (find .find-set .ensures) (c .before .found .given .1), s .pre .1)
 
 all-holders-requires : tie.Need-all-holders-requires
-all-holders-requires c κs = let s = c .before .before .before .before .before .before in (s .pre .0, holders-there (s .args .i) (s .args .it .now) _ _ (c .before .before .before .find-set .ensures) (c .before .found .given .1))
+all-holders-requires c κs =
+    let find = c .before .before .before in
+    let s = find .before .before .before in
+    (s .pre .0, holders-there (s .args .i) (s .args .it .now) _ _ (find .find-set .ensures) (c .before .found .given .1))
 
 enum-told : tie.Need-enum-told
 enum-told c = search needs
 
 returns : tie.Need-returns
-returns c = holders-found _ _ _ _ (c .before .before .before .before .before .before .find-set .ensures) (c .before .before .before .before .found .given .1) (c .before .before .all-holders .ensures)
+returns c =
+    let holders = c .before .before in
+    let found = holders .before .before in
+    holders-found _ _ _ _ (found .before .before .find-set .ensures) (found .found .given .1) (holders .all-holders .ensures)
 
 returns-2 : tie.Need-returns-2
 returns-2 c = holders-new _ _ _ _ (c .before .before .find-set .ensures) (c .enum-told .given .1)

@@ -18,7 +18,9 @@ add-t7 : tie.Need-add-t7
 add-t7 c = search needs
 
 returns : tie.Need-returns
-returns c = let new = c .before .new-rows in (lock-part _ _ _ (new .ensures .0) (new .ensures .1 .0), omega (arith, new .ensures .1 .1))
+returns c =
+    let new = c .before .new-rows in
+    (lock-part _ _ _ (new .ensures .0) (new .ensures .1 .0), omega (arith, new .ensures .1 .1))
 
 pub lock-rows-spec : {M : Type 1} → statement M
 lock-rows-spec = tie.close (tie.spec cast-new-rows new-rows-requires add-t6 add-t7 returns)

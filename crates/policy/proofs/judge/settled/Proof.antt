@@ -10,13 +10,19 @@ lock-rows-requires : tie.Need-lock-rows-requires
 lock-rows-requires c κs = search needs
 
 returns : tie.Need-returns
-returns c = (settled-lock (c .before .before .before .args .free) _ _ _ (not-true _ (c .before .if1 .taken)) (c .lock-rows .ensures .0), omega (arith, c .lock-rows .ensures .1))
+returns c =
+    let e = c .before in
+    (settled-lock (e .before .before .args .free) _ _ _ (not-true _ (e .if1 .taken)) (c .lock-rows .ensures .0), omega (arith, c .lock-rows .ensures .1))
 
 returns-2 : tie.Need-returns-2
-returns-2 c = (settled-bare (c .before .before .before .before .args .free) _ _ _ (not-false _ (c .before .before .if1 .left)) (c .if2 .taken), omega arith)
+returns-2 c =
+    let e = c .before .before in
+    (settled-bare (e .before .before .args .free) _ _ _ (not-false _ (e .if1 .left)) (c .if2 .taken), omega arith)
 
 returns-3 : tie.Need-returns-3
-returns-3 c = (settled-free (c .before .before .before .before .args .free) _ _ _ (not-false _ (c .before .before .if1 .left)) (c .if2 .left), omega arith)
+returns-3 c =
+    let e = c .before .before in
+    (settled-free (e .before .before .args .free) _ _ _ (not-false _ (e .if1 .left)) (c .if2 .left), omega arith)
 
 pub settled-spec : {M : Type 1} → statement M
 settled-spec = tie.close (tie.spec lock-rows-requires returns returns-2 returns-3)

@@ -10,7 +10,9 @@ returns : tie.Need-returns
 returns c = (waiting-full _ _ _ _ _ (c .if1 .taken), omega arith)
 
 returns-2 : tie.Need-returns-2
-returns-2 c = (waiting-held _ _ _ _ (c .before .before .before .before .before .args .p) (not-true _ (c .if2 .taken)), omega arith)
+returns-2 c =
+    let s = c .before .before .before .before .before in
+    (waiting-held _ _ _ _ (s .args .p) (not-true _ (c .if2 .taken)), omega arith)
 
 cast-count-waiting : tie.Need-cast-count-waiting
 cast-count-waiting c = search needs
@@ -19,7 +21,11 @@ count-waiting-requires : tie.Need-count-waiting-requires
 count-waiting-requires c κs = search needs
 
 returns-3 : tie.Need-returns-3
-returns-3 c = let s = c .before .before .before .before .before .before .before in waiting-some _ _ _ _ (s .args .p) (c .before .before .before .before .if1 .left) (not-false _ (c .before .before .if2 .left)) (omega (arith, s .good)) (c .count-waiting .ensures)
+returns-3 c =
+    let token = c .before .before in
+    let delta = token .before .before in
+    let s = delta .before .before .before in
+    waiting-some _ _ _ _ (s .args .p) (delta .if1 .left) (not-false _ (token .if2 .left)) (omega (arith, s .good)) (c .count-waiting .ensures)
 
 pub waiting-spec : {M : Type 1} → statement M
 waiting-spec =

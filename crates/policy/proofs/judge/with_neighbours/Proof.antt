@@ -21,7 +21,10 @@ add-t10 : tie.Need-add-t10
 add-t10 c = search needs
 
 returns-2 : tie.Need-returns-2
-returns-2 c = (some-waiting _ _ _ _ (c .before .before .before .before .before .before .before .if1 .left) (c .before .before .before .before .before .before .lock-rows .ensures .0), omega (arith, c .before .before .before .before .before .before .before .before .before .pre, c .before .before .before .before .before .before .lock-rows .ensures .1))
+returns-2 c =
+    let lock = c .before .before .before .before .before .before in
+    let some = lock .before in
+    (some-waiting _ _ _ _ (some .if1 .left) (lock .lock-rows .ensures .0), omega (arith, some .before .before .pre, lock .lock-rows .ensures .1))
 
 pub with-neighbours-spec : {M : Type 1} → statement M
 with-neighbours-spec =
