@@ -57,6 +57,7 @@ use Rattle.policy.specs.declared.open.Lengths.{Lengths}
 use Rattle.policy.specs.declared.open.Openable.{Openable}
 use Rattle.policy.specs.declared.open.Openable.the-variants.{Go, No}
 use Rattle.policy.proofs.ReadyLaws.{layered-laid, bookOf, Sizes, sizes, resources-count, outer-count, inner-tokens-count, users-count, inner-layer, row-read, such-told, inner-laid, row-inner}
+use Rattle.policy.proofs.PartLaws.{there}
 use Rattle.policy.proofs.JudgeLaws.{verdict-first}
 
 -- ---- one chain, in its own layer
@@ -103,6 +104,13 @@ module _ (n : ℕ) (vs : List ℕ) (u v : ℕ) where
   unfolding setOf
   known-set m e q = rw (ne-eqb v book.none m) (q ∙ ap (λ (s : ℕ). has s u) e)
 
+-- the rows by another name
+pub rows-stored : {xs ys list′ : List ℕ} (list : List ℕ) → xs ≡ ys → list′ ≡ stored 0 xs list → list′ ≡ stored 0 ys list
+rows-stored list e q = q ∙ ap (λ (x : List ℕ). stored 0 x list) e
+
+pub rows-fit : {xs ys : List ℕ} {n : ℕ} → xs ≡ ys → length ys ≤ n → length xs ≤ n
+rows-fit e l = rw e l
+
 -- ---- the two layers of a sound book
 
 pub layered-kept : {n : ℕ} (l : Shape) (ts vs : List ℕ) → Layered n (layerOf l ts vs) → Laid l ts vs → Kept l ts vs
@@ -120,10 +128,6 @@ module _ (h : Head) (iv it ov ot rs : List ℕ) where
   pub outer-layer : layerOf (outerShape h) ot ov ≡ b .outer
   unfolding bookIn layerOf
   outer-layer = refl
-
-  -- z is the code's test for 1
-  pub such-is : {z w : Bool} (r u : ℕ) → z ≡ not (ltb u (h .users .0) && ltb r (h .resources .0)) → z ≡ w → noSuch b u r ≡ w
-  such-is r u ez e = sym (such-told h iv it ov ot rs r u ez) ∙ e
 
   module _ (ready : Ready h t) where
     pub user-below : {u : ℕ} → u < h .users .0 → u < 64
@@ -284,26 +288,43 @@ length-opened : (b : Book) (u r : ℕ) {k : Lengths} → k ≡ lengthsOf b u r �
 unfolding opened
 length-opened b u r e = rw e (sym (length-append (innerChain b u r) (outerChain b u r)))
 
-module _ (b : Book) (u r room : ℕ) where
-  pub open-no-such : noSuch b u r ≡ true → No NoSuch ≡ openable b u r room
+-- z is the code's test for 1
+such-is : (h : Head) (t : Tables) (u r : ℕ) {z w : Bool} → z ≡ not (ltb u (h .users .0) && ltb r (h .resources .0)) → z ≡ w → noSuch (bookIn h t) u r ≡ w
+such-is h t u r ez e = sym (such-told h (t .innerVertices) (t .innerTokens) (t .outerVertices) (t .outerTokens) (t .resources) r u ez) ∙ e
+
+module _ (h : Head) (t : Tables) (u r room : ℕ) {z : Bool} (ez : z ≡ not (ltb u (h .users .0) && ltb r (h .resources .0))) where
+  abbrev A : Book
+  A = bookIn h t
+
+  pub open-no-such : z ≡ true → No NoSuch ≡ openable A u r room
   unfolding openable openableBy verdict
-  open-no-such e = rw e
+  open-no-such e = rw (such-is h t u r ez e)
 
-  module _ (ok : noSuch b u r ≡ false) {v : View} (ev : v ≡ view b u r) where
-    pub open-closed : v ≢ Open → No (Closed v) ≡ openable b u r room
+  module _ (ok : z ≡ false) {v : View} (ev : v ≡ view A u r) where
+    exists : noSuch A u r ≡ false
+    exists = such-is h t u r ez ok
+
+    pub open-closed : v ≢ Open → No (Closed v) ≡ openable A u r room
     unfolding openable openableBy verdict
-    open-closed n = rw (ev, ok, closed (view b u r) (λ e. n (ev ∙ e)))
+    open-closed n = rw (ev, exists, closed (view A u r) (λ e. n (ev ∙ e)))
 
-    module _ (eo : v ≡ Open) {k : Lengths} (ek : k ≡ lengthsOf b u r) where
-      pub open-short : room < k .inner + k .outer → No ShortList ≡ openable b u r room
-      unfolding openable openableBy verdict
-      open-short l = rw (ok, sym ev ∙ eo, lt-ltb room (length (opened b u r)) (omega (arith, length-opened b u r ek)))
+    module _ (eo : v ≡ Open) where
+      pub opening : Ready h t → Opening h t u r
+      opening ready =
+          let (user, resource) = there u (h .users .0) r (h .resources .0) ez ok in
+          record { ready = ready; user = user; there = resource; opens = sym ev ∙ eo }
 
-      pub open-go : k .inner + k .outer ≤ room → Go k ≡ openable b u r room
-      unfolding openable openableBy verdict
-      open-go l = rw (ek, ok, sym ev ∙ eo, le-ltb room (length (opened b u r)) (omega (arith, length-opened b u r ek)))
+      module _ {k : Lengths} (ek : k ≡ lengthsOf A u r) where
+        pub open-short : room < k .inner + k .outer → No ShortList ≡ openable A u r room
+        unfolding openable openableBy verdict
+        open-short l = rw (exists, sym ev ∙ eo, lt-ltb room (length (opened A u r)) (omega (arith, length-opened A u r ek)))
 
-  -- and the other way: what the answer says of the table
+        pub open-go : k .inner + k .outer ≤ room → Go k ≡ openable A u r room
+        unfolding openable openableBy verdict
+        open-go l = rw (ek, exists, sym ev ∙ eo, le-ltb room (length (opened A u r)) (omega (arith, length-opened A u r ek)))
+
+-- and the other way: what the answer says of the table
+module _ (b : Book) (u r room : ℕ) where
   refused : {k : Refusal} → openable b u r room ≡ No k → verdict (ownOpen b u r room) ≡ some k
   unfolding openable openableBy
   refused {k} e = go (verdict (ownOpen b u r room)) e
@@ -356,13 +377,14 @@ module _ (h : Head) (t : Tables) (u r : ℕ) {k : Checked} (ek : k ≡ checked h
     past : (xs : Rows) → verdict (common t B ++ xs) ≡ verdict xs
     past xs = let y : Ready h t = checked-ready h t ek es in common-passed t B xs (y .long) (y .sound′)
 
-    pub view-no-such : noSuch B u r ≡ true → viewed.No NoSuch ≡ viewCall u r h t
-    unfolding viewCall viewCallBy refusalView verdict
-    view-no-such e = rw (past ((NoSuch, noSuch B u r) ∷ []), e)
+    module _ {z : Bool} (ez : z ≡ not (ltb u (h .users .0) && ltb r (h .resources .0))) where
+      pub view-no-such : z ≡ true → viewed.No NoSuch ≡ viewCall u r h t
+      unfolding viewCall viewCallBy refusalView verdict
+      view-no-such e = rw (past ((NoSuch, noSuch B u r) ∷ []), such-is h t u r ez e)
 
-    pub view-told : {w : View} → noSuch B u r ≡ false → w ≡ view B u r → viewed.Is w ≡ viewCall u r h t
-    unfolding viewCall viewCallBy refusalView verdict
-    view-told e q = rw (past ((NoSuch, noSuch B u r) ∷ []), e, q)
+      pub view-told : {w : View} → z ≡ false → w ≡ view B u r → viewed.Is w ≡ viewCall u r h t
+      unfolding viewCall viewCallBy refusalView verdict
+      view-told e q = rw (past ((NoSuch, noSuch B u r) ∷ []), such-is h t u r ez e, q)
 
     module _ (list : List ℕ) {j : Openable} (ej : j ≡ openable B u r (length list)) where
       pub open-no : {n : Refusal} → j ≡ No n → showing (shown.No n) list ≡ openCall u r h t list

@@ -1,9 +1,8 @@
 -- `policy::open::inner_rows` meets its contract. Assumes nothing.
-use Prim.Native.Nat.{ℕ, _<_}
-use mathlib.Core.Path.{_≡_, ap, _∙_}
-use mathlib.Core.List.{List, [], _∷_}
-use Rattle.rows.specs.Number.{stored}
-use Rattle.policy.proofs.OpenLaws.{names-told, inner-chained, direct-there, direct-found, row-written}
+use Prim.Native.Nat.{_<_}
+use mathlib.Core.Path.{_≡_, ap}
+use mathlib.Core.List.{[], _∷_}
+use Rattle.policy.proofs.OpenLaws.{names-told, inner-chained, direct-there, direct-found, row-written, rows-stored, rows-fit}
 use native.Mathlib.Omega.{arith}
 use lib.ListN.{length}
 use Rattle.layer.specs.Laid.{layerOf}
@@ -26,13 +25,13 @@ has-requires : tie.Need-has-requires
 has-requires c κs = search needs
 
 chain-rows-requires : tie.Need-chain-rows-requires
-chain-rows-requires c κs = let s = c .before .before .before .before .before .before .before in let names = names-told (s .args .i) _ _ _ _ (c .before .before .before .set-of .ensures) (c .before .before .has .ensures) (c .before .if1 .taken) in (s .pre .0, ((s .pre .1 .0 .0, s .pre .1 .0 .1, names), rw (inner-chained _ _ _ names) (s .pre .1 .1)))
+chain-rows-requires c κs = let s = c .before .before .before .before .before .before .before in let names = names-told (s .args .i) _ _ _ _ (c .before .before .before .set-of .ensures) (c .before .before .has .ensures) (c .before .if1 .taken) in (s .pre .0, ((s .pre .1 .0 .0, s .pre .1 .0 .1, names), rows-fit (inner-chained _ _ _ names) (s .pre .1 .1)))
 
 same-length : tie.Need-same-length
 same-length c = search needs
 
 returns : tie.Need-returns
-returns c = let s = c .before .before .before .before .before .before .before .before .before .before in c .before .before .chain-rows .ensures .1 ∙ ap (λ (x : List ℕ). stored 0 x (s .args .list .now)) (inner-chained _ _ _ (names-told (s .args .i) _ _ _ _ (c .before .before .before .before .before .before .set-of .ensures) (c .before .before .before .before .before .has .ensures) (c .before .before .before .before .if1 .taken)))
+returns c = let s = c .before .before .before .before .before .before .before .before .before .before in rows-stored _ (inner-chained _ _ _ (names-told (s .args .i) _ _ _ _ (c .before .before .before .before .before .before .set-of .ensures) (c .before .before .before .before .before .has .ensures) (c .before .before .before .before .if1 .taken))) (c .before .before .chain-rows .ensures .1)
 
 find-direct-requires : tie.Need-find-direct-requires
 find-direct-requires c κs = search needs
