@@ -90,6 +90,10 @@ module _ (h : Head) (iv it ov ot rs : List ℕ) where
   unfolding bookIn newVertices newTokens found vertexFor cover
   inner-new s = (refl, refl)
 
+  pub inner-layer : layerOf (innerShape h) it iv ≡ bookOf .inner
+  unfolding bookIn layerOf
+  inner-layer = refl
+
   pub row-read : {x : Resource} (r : ℕ) → x ≡ getD (resourcesIn (h .resources .0) rs) r noResource → x ≡ resource bookOf r
   unfolding bookIn resource
   row-read r e = e
