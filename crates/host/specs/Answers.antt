@@ -1,6 +1,6 @@
 -- The C interface's answers, from the calls' definitions: numbers only.
 -- Assumes nothing.
-use Prim.Native.Nat.{ℕ, zero, suc}
+use Prim.Native.Nat.{ℕ, zero, suc, _+_, _*_}
 use mathlib.Core.Bool.{Bool, cond}
 use mathlib.Core.List.{List, [], _∷_}
 use mathlib.Core.Option.{Option, some, none}
@@ -8,10 +8,16 @@ use lib.Dec.{ltb}
 use lib.ListN.{length, getD}
 use Rattle.rows.specs.Number.{stored}
 use Rattle.rules.specs.Bytes.{Tables, bookIn, head, headIn, start}
-use Rattle.rules.specs.Refusals.{number, common, verdict}
-use Rattle.rules.specs.Calls.{Part, sectionCall, Load, readCall, Write, writeCall}
+use Rattle.rules.specs.Refusals.{number, viewNumber, viewTold, common, verdict, Request}
+use Rattle.rules.specs.Calls.{Part, sectionCall, Load, readCall, Write, writeCall, Change, change, viewCall, Shown, openCall}
 use Rattle.rules.specs.declared.Head.{Head}
 use Rattle.rules.specs.declared.Refusal.{Refusal}
+use Rattle.rules.specs.declared.Changed.{Changed}
+use Rattle.rules.specs.declared.Changed.the-variants as changed
+use Rattle.rules.specs.declared.Viewed.{Viewed}
+use Rattle.rules.specs.declared.Viewed.the-variants as viewed
+use Rattle.rules.specs.declared.Opened.{Opened}
+use Rattle.rules.specs.declared.Opened.the-variants as opened
 use Rattle.rules.specs.declared.Loaded.{Loaded}
 use Rattle.rules.specs.declared.Loaded.the-variants as loaded
 use Rattle.rules.specs.declared.Stored.{Stored}
@@ -81,3 +87,70 @@ writeBy (written.Bytes n) b = writtenAs 0 b n
 
 unfoldable pub writeAnswer : List ℕ → Tables → List ℕ → Writes
 writeAnswer l t b = cond (ltb (length l) 7) (writtenAs 13 b 0) (writeBy (writeCall (headFrom l) t b .answer) (writeCall (headFrom l) t b .buffer))
+
+-- ---- the requests
+
+-- a refusal of a request: 11 comes as 11 + 256 * view
+unfoldable pub resultOf : Refusal → ℕ
+resultOf r = number r + 256 * viewTold r
+
+-- a change in numbers: the result, the head's numbers and the count of order rows
+pub record Told : Type 0 where
+  pub result : ℕ
+  pub head : List ℕ
+  pub count : ℕ
+
+abbrev pub toldAs : ℕ → List ℕ → ℕ → Told
+toldAs r l n = record { result = r; head = l; count = n }
+
+unfoldable pub changeTold : Changed → List ℕ → Told
+changeTold (changed.No r) l = toldAs (resultOf r) l 0
+changeTold (changed.Done h n) l = toldAs 0 (stored 0 (headNumbers h) l) n
+
+pub record Changes : Type 0 where
+  pub told : Told
+  pub tables : Tables
+  pub orders : List ℕ
+
+abbrev pub changedAs : ℕ → List ℕ → Tables → List ℕ → ℕ → Changes
+changedAs r l t list n = record { told = toldAs r l n; tables = t; orders = list }
+
+unfoldable pub changeBy : Change → List ℕ → Changes
+changeBy c l = record { told = changeTold (c .answer) l; tables = c .tables; orders = c .orders }
+
+unfoldable pub changeAnswer : Request → List ℕ → Tables → List ℕ → Changes
+changeAnswer q l t list = cond (ltb (length l) 7) (changedAs 13 l t list 0) (changeBy (change q (headFrom l) t list) l)
+
+-- a view
+pub record Views : Type 0 where
+  pub result : ℕ
+  pub view : ℕ
+
+abbrev pub viewedAs : ℕ → ℕ → Views
+viewedAs r v = record { result = r; view = v }
+
+unfoldable pub viewAs : Viewed → Views
+viewAs (viewed.No r) = viewedAs (resultOf r) 0
+viewAs (viewed.Is v) = viewedAs 0 (viewNumber v)
+
+unfoldable pub viewAnswer : ℕ → ℕ → List ℕ → Tables → Views
+viewAnswer u r l t = cond (ltb (length l) 7) (viewedAs 13 0) (viewAs (viewCall u r (headFrom l) t))
+
+-- an open: the chains' rows in the list, and how many each has
+pub record Opens : Type 0 where
+  pub result : ℕ
+  pub list : List ℕ
+  pub inner : ℕ
+  pub outer : ℕ
+
+abbrev pub openedAs : ℕ → List ℕ → ℕ → ℕ → Opens
+openedAs r list i o = record { result = r; list = list; inner = i; outer = o }
+
+unfoldable pub openBy : Opened → List ℕ → Opens
+openBy (opened.No r) list = openedAs (resultOf r) list 0 0
+openBy (opened.Chains i o) list = openedAs 0 list i o
+
+unfoldable pub openAnswer : ℕ → ℕ → List ℕ → Tables → List ℕ → Opens
+openAnswer u r l t list =
+    let c = openCall u r (headFrom l) t list in
+    cond (ltb (length l) 7) (openedAs 13 list 0 0) (openBy (c .answer) (c .list))

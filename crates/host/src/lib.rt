@@ -1,5 +1,7 @@
 // The C interface (include/fenstubble.h): thin functions over numbers and slices. A head is 7 numbers; the result is 0 or the refusal's number.
 // The five tables are iv, it, ov, ot, rs: inner vertices and tokens, outer vertices and tokens, resources.
+pub mod requests;
+
 use rules::Head;
 use rules::InnerTokens;
 use rules::InnerVertices;
@@ -21,7 +23,7 @@ ghost use Rattle.rules.specs.Bytes.{tables};
 ghost use Rattle.host.specs.Answers.{headFrom, headNumbers, checkAnswer, sectionAnswer, readAnswer, writeAnswer, answered, loadedAs, writtenAs};
 
 // The head that 7 numbers give.
-fn head_of(head: &[u16]) -> Head
+pub fn head_of(head: &[u16]) -> Head
     requires { ⌜ 7 ≤ length (now head) ⌝ }
     ensures { λ r. ⌜ r ≡ headFrom (now (head .entry)) ⌝ }
 {
@@ -44,7 +46,7 @@ fn head_of(head: &[u16]) -> Head
 }
 
 // A head into 7 numbers.
-fn put_head(head: &mut [u16], h: Head)
+pub fn put_head(head: &mut [u16], h: Head)
     requires { ⌜ 7 ≤ length (now head) ⌝ }
     ensures { λ _. ⌜ now (head .exit) ≡ stored 0 (headNumbers h) (now (head .entry)) ⌝ }
 {

@@ -1,0 +1,232 @@
+// The requests of the C interface, view and open. The result is 0 or the refusal's number; 11 comes as 11 + 256 * view.
+// The five tables are iv, it, ov, ot, rs: inner vertices and tokens, outer vertices and tokens, resources. Order rows are three numbers each.
+use crate::head_of;
+use crate::put_head;
+use policy::open::open;
+use policy::open::view;
+use policy::requests::grant;
+use policy::requests::insert;
+use policy::requests::join;
+use policy::requests::revoke;
+use rules::Changed;
+use rules::Opened;
+use rules::Refusal;
+use rules::Resource;
+use rules::Viewed;
+use rules::refusal_number;
+use rules::view_number;
+use sets::User;
+use sets::Users;
+ghost use mathlib.Core.Path.{_≡_};
+ghost use Prim.Native.Nat.{_≤_};
+ghost use lib.ListN.{length};
+ghost use Rattle.rules.specs.Bytes.{tables};
+ghost use Rattle.rules.specs.Refusals.{joins, inserts, grants, revokes};
+ghost use Rattle.host.specs.Answers.{resultOf, toldAs, changeTold, changedAs, changeAnswer, viewedAs, viewAnswer, openedAs, openAnswer};
+
+// The number of a refusal; with 11 also the view.
+fn result_of(n: Refusal) -> u16
+    ensures { λ r. ⌜ r ≡ resultOf n ⌝ }
+{
+    let Refusal::Closed(v) = n else {
+        return refusal_number(n);
+    };
+    11 + 256 * view_number(v)
+}
+
+// What a change answers, in numbers.
+fn told(c: Changed, head: &mut [u16], count: &mut u16) -> u16
+    requires { ⌜ 7 ≤ length (now head) ⌝ }
+    ensures { λ r. ⌜ toldAs r (now (head .exit)) (now (count .exit)) ≡ changeTold c (now (head .entry)) ⌝ }
+{
+    match c {
+        Changed::No(n) => {
+            *count = 0;
+            result_of(n)
+        }
+        Changed::Done(h, n) => {
+            put_head(head, h);
+            *count = n;
+            0
+        }
+    }
+}
+
+#[no_mangle]
+pub extern "C" fn fenstubble_join(
+    head: &mut [u16],
+    iv: &mut [u8],
+    it: &mut [u8],
+    ov: &mut [u8],
+    ot: &mut [u8],
+    rs: &mut [u8],
+    orders: &mut [u16],
+    count: &mut u16,
+) -> u16
+    ensures { λ k. ⌜ changedAs k (now (head .exit)) (tables (now (iv .exit)) (now (it .exit)) (now (ov .exit)) (now (ot .exit)) (now (rs .exit))) (now (orders .exit)) (now (count .exit)) ≡ changeAnswer joins (now (head .entry)) (tables (now (iv .entry)) (now (it .entry)) (now (ov .entry)) (now (ot .entry)) (now (rs .entry))) (now (orders .entry)) ⌝ }
+{
+    if head.len() < 7 {
+        *count = 0;
+        return 13;
+    }
+    let c = join(head_of(head), iv, it, ov, ot, rs, orders);
+    told(c, head, count)
+}
+
+#[no_mangle]
+pub extern "C" fn fenstubble_insert(
+    head: &mut [u16],
+    iv: &mut [u8],
+    it: &mut [u8],
+    ov: &mut [u8],
+    ot: &mut [u8],
+    rs: &mut [u8],
+    orders: &mut [u16],
+    count: &mut u16,
+    l: u64,
+) -> u16
+    ensures { λ k. ⌜ changedAs k (now (head .exit)) (tables (now (iv .exit)) (now (it .exit)) (now (ov .exit)) (now (ot .exit)) (now (rs .exit))) (now (orders .exit)) (now (count .exit)) ≡ changeAnswer (inserts l) (now (head .entry)) (tables (now (iv .entry)) (now (it .entry)) (now (ov .entry)) (now (ot .entry)) (now (rs .entry))) (now (orders .entry)) ⌝ }
+{
+    if head.len() < 7 {
+        *count = 0;
+        return 13;
+    }
+    let c = insert(head_of(head), iv, it, ov, ot, rs, orders, Users(l));
+    told(c, head, count)
+}
+
+#[no_mangle]
+pub extern "C" fn fenstubble_grant(
+    head: &mut [u16],
+    iv: &mut [u8],
+    it: &mut [u8],
+    ov: &mut [u8],
+    ot: &mut [u8],
+    rs: &mut [u8],
+    orders: &mut [u16],
+    count: &mut u16,
+    r: u16,
+    u: u16,
+) -> u16
+    ensures { λ k. ⌜ changedAs k (now (head .exit)) (tables (now (iv .exit)) (now (it .exit)) (now (ov .exit)) (now (ot .exit)) (now (rs .exit))) (now (orders .exit)) (now (count .exit)) ≡ changeAnswer (grants r u) (now (head .entry)) (tables (now (iv .entry)) (now (it .entry)) (now (ov .entry)) (now (ot .entry)) (now (rs .entry))) (now (orders .entry)) ⌝ }
+{
+    if head.len() < 7 {
+        *count = 0;
+        return 13;
+    }
+    let c = grant(
+        head_of(head),
+        iv,
+        it,
+        ov,
+        ot,
+        rs,
+        orders,
+        Resource(r),
+        User(u),
+    );
+    told(c, head, count)
+}
+
+#[no_mangle]
+pub extern "C" fn fenstubble_revoke(
+    head: &mut [u16],
+    iv: &mut [u8],
+    it: &mut [u8],
+    ov: &mut [u8],
+    ot: &mut [u8],
+    rs: &mut [u8],
+    orders: &mut [u16],
+    count: &mut u16,
+    r: u16,
+    u: u16,
+) -> u16
+    ensures { λ k. ⌜ changedAs k (now (head .exit)) (tables (now (iv .exit)) (now (it .exit)) (now (ov .exit)) (now (ot .exit)) (now (rs .exit))) (now (orders .exit)) (now (count .exit)) ≡ changeAnswer (revokes r u) (now (head .entry)) (tables (now (iv .entry)) (now (it .entry)) (now (ov .entry)) (now (ot .entry)) (now (rs .entry))) (now (orders .entry)) ⌝ }
+{
+    if head.len() < 7 {
+        *count = 0;
+        return 13;
+    }
+    let c = revoke(
+        head_of(head),
+        iv,
+        it,
+        ov,
+        ot,
+        rs,
+        orders,
+        Resource(r),
+        User(u),
+    );
+    told(c, head, count)
+}
+
+#[no_mangle]
+pub extern "C" fn fenstubble_view(
+    head: &[u16],
+    iv: &[u8],
+    it: &[u8],
+    ov: &[u8],
+    ot: &[u8],
+    rs: &[u8],
+    u: u16,
+    r: u16,
+    cell: &mut u16,
+) -> u16
+    ensures { λ k. ⌜ viewedAs k (now (cell .exit)) ≡ viewAnswer u r (now (head .entry)) (tables (now (iv .entry)) (now (it .entry)) (now (ov .entry)) (now (ot .entry)) (now (rs .entry))) ⌝ }
+{
+    *cell = 0;
+    if head.len() < 7 {
+        return 13;
+    }
+    let w = view(head_of(head), iv, it, ov, ot, rs, User(u), Resource(r));
+    match w {
+        Viewed::No(n) => result_of(n),
+        Viewed::Is(v) => {
+            *cell = view_number(v);
+            0
+        }
+    }
+}
+
+#[no_mangle]
+pub extern "C" fn fenstubble_open(
+    head: &[u16],
+    iv: &[u8],
+    it: &[u8],
+    ov: &[u8],
+    ot: &[u8],
+    rs: &[u8],
+    u: u16,
+    r: u16,
+    list: &mut [u16],
+    inner: &mut u16,
+    outer: &mut u16,
+) -> u16
+    ensures { λ k. ⌜ openedAs k (now (list .exit)) (now (inner .exit)) (now (outer .exit)) ≡ openAnswer u r (now (head .entry)) (tables (now (iv .entry)) (now (it .entry)) (now (ov .entry)) (now (ot .entry)) (now (rs .entry))) (now (list .entry)) ⌝ }
+{
+    *inner = 0;
+    *outer = 0;
+    if head.len() < 7 {
+        return 13;
+    }
+    let w = open(
+        head_of(head),
+        iv,
+        it,
+        ov,
+        ot,
+        rs,
+        User(u),
+        Resource(r),
+        list,
+    );
+    match w {
+        Opened::No(n) => result_of(n),
+        Opened::Chains(i, o) => {
+            *inner = i;
+            *outer = o;
+            0
+        }
+    }
+}
