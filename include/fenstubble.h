@@ -6,7 +6,7 @@
  * bytes for a table or a buffer, of numbers for a list.
  *
  * Order rows are three numbers each. The result is 0, or the refusal's number; 11 comes as 11 + 256 * view. A refusal leaves everything that was lent
- * as it was. A head of fewer than 7 numbers is 13, like a table that is too short. */
+ * as it was, but for the cells, which take 0. A head of fewer than 7 numbers is 13, like a table that is too short. */
 #ifndef FENSTUBBLE_H
 #define FENSTUBBLE_H
 
