@@ -1,13 +1,2 @@
-pub mod WriteLaws
-pub mod ReadyLaws
-pub mod PartLaws
-pub mod JudgeLaws
 pub mod RequestCalls
-pub mod WaitLaws
-pub mod WorksLaws
-pub mod ApplyLaws
-pub mod GrantWorks
-pub mod GrantLaws
-pub mod GrantSteps
-pub mod InsertLaws
 pub mod OpenLaws

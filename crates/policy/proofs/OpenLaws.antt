@@ -51,14 +51,14 @@ use Rattle.layer.proofs.Steps.{found-at, not-found}
 use Rattle.sound.specs.Check.{checkedBy, checked}
 use Rattle.sound.specs.declared.Checked.{Checked}
 use Rattle.sound.specs.declared.Checked.the-variants as checks
-use Rattle.policy.specs.Judge.{Ready, innerShape, outerShape}
+use Rattle.plan.specs.Judge.{Ready, innerShape, outerShape}
 use Rattle.policy.specs.Open.{lengthsOf, openableBy, openable, ownOpen, Opening, innerRows, outerRows, knownIn, OuterThere, OuterNames, LetIn}
 use Rattle.policy.specs.declared.open.Lengths.{Lengths}
 use Rattle.policy.specs.declared.open.Openable.{Openable}
 use Rattle.policy.specs.declared.open.Openable.the-variants.{Go, No}
-use Rattle.policy.proofs.ReadyLaws.{layered-laid, bookOf, Sizes, sizes, resources-count, outer-count, inner-tokens-count, users-count, inner-layer, row-read, such-told, inner-laid, row-inner}
-use Rattle.policy.proofs.PartLaws.{there}
-use Rattle.policy.proofs.JudgeLaws.{verdict-first}
+use Rattle.plan.proofs.ReadyLaws.{layered-laid, bookOf, Sizes, sizes, resources-count, outer-count, inner-tokens-count, users-count, inner-layer, row-read, such-told, inner-laid, row-inner}
+use Rattle.plan.proofs.PartLaws.{there}
+use Rattle.plan.proofs.JudgeLaws.{verdict-first}
 
 -- ---- one chain, in its own layer
 

@@ -13,14 +13,14 @@ use Rattle.rules.specs.declared.Head.{Head}
 use Rattle.rules.specs.declared.Refusal.{Refusal}
 use Rattle.rules.specs.declared.Changed.the-variants as changed
 use Rattle.theorems.proofs.RequestLaws.{common-none, common-passed}
-use Rattle.policy.proofs.JudgeLaws.{verdict-first}
+use Rattle.plan.proofs.JudgeLaws.{verdict-first}
 use Rattle.sound.specs.Check.{checked, checkedBy}
 use Rattle.sound.specs.declared.Checked.{Checked}
 use Rattle.sound.specs.declared.Checked.the-variants as checks
-use Rattle.policy.specs.Judge.{Ready, planOf, judgedBy, judged}
-use Rattle.policy.specs.declared.plan.Plan.{Plan}
-use Rattle.policy.specs.declared.plan.Judged.{Judged}
-use Rattle.policy.specs.declared.plan.Judged.the-variants as plans
+use Rattle.plan.specs.Judge.{Ready, planOf, judgedBy, judged}
+use Rattle.plan.specs.declared.Plan.{Plan}
+use Rattle.plan.specs.declared.Judged.{Judged}
+use Rattle.plan.specs.declared.Judged.the-variants as plans
 
 -- what the answers say of the table of refusals
 check-no : (v : Option Refusal) (n : Refusal) → checkedBy v ≡ checks.No n → v ≡ some n

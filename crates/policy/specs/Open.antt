@@ -20,7 +20,7 @@ use Rattle.rules.specs.declared.View.the-variants.{Open}
 use Rattle.rules.specs.declared.Refusal.{Refusal}
 use Rattle.rules.specs.declared.Refusal.the-variants.{NoSuch, Closed, ShortList}
 use Rattle.layer.specs.declared.walk.Shape.{Shape}
-use Rattle.policy.specs.Judge.{Ready}
+use Rattle.plan.specs.Judge.{Ready}
 use Rattle.policy.specs.declared.open.Lengths.{Lengths}
 use Rattle.policy.specs.declared.open.Openable.{Openable}
 use Rattle.policy.specs.declared.open.Openable.the-variants.{Go, No}

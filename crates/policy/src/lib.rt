@@ -1,9 +1,3 @@
-// The requests: check, plan, apply. Nothing is written before every refusal is excluded.
-pub mod apply;
-pub mod grant;
-pub mod judge;
+// The calls: each makes every check itself, then plans, then applies. Nothing is written before every refusal is excluded.
 pub mod open;
-pub mod plan;
 pub mod requests;
-pub mod step;
-pub mod write;

@@ -1,9 +1,5 @@
 // View and open: calls that leave the book as it is.
 // The five tables are iv, it, ov, ot, rs: inner vertices and tokens, outer vertices and tokens, resources.
-use crate::judge::all_holders;
-use crate::judge::no_such;
-use crate::plan::inner_shape;
-use crate::plan::outer_shape;
 use layer::table::Found;
 use layer::table::resource_in;
 use layer::table::set_of;
@@ -11,6 +7,10 @@ use layer::walk::Shape;
 use layer::walk::chain_length;
 use layer::walk::chain_rows;
 use layer::walk::find_direct;
+use plan::inner_shape;
+use plan::judge::all_holders;
+use plan::judge::no_such;
+use plan::outer_shape;
 use rules::Head;
 use rules::Opened;
 use rules::OuterVertex;
@@ -28,15 +28,14 @@ ghost use Prim.Native.Nat.{_+_, _*_, _≤_, _<_};
 ghost use lib.ListN.{length};
 ghost use Rattle.sets.specs.Sets.{has};
 ghost use Rattle.rows.specs.Number.{stored};
-ghost use Rattle.rules.specs.Layer.{setOf};
 ghost use Rattle.rules.specs.Bytes.{tables, bookIn};
-ghost use Rattle.rules.specs.Holders.{holders, viewBy, view};
+ghost use Rattle.rules.specs.Holders.{viewBy, view};
 ghost use Rattle.rules.specs.Open.{innerChain};
 ghost use Rattle.rules.specs.Refusals.{opened};
 ghost use Rattle.rules.specs.Calls.{viewCall, openCall, showing};
-ghost use Rattle.layer.specs.Laid.{Laid, Kept, layerOf};
+ghost use Rattle.layer.specs.Laid.{Kept, layerOf};
 ghost use Rattle.layer.specs.Make.{setsOnly};
-ghost use Rattle.policy.specs.Judge.{Ready};
+ghost use Rattle.plan.specs.Judge.{Ready};
 ghost use Rattle.policy.specs.Open.{lengthsOf, openable, Opening, innerRows, outerRows, knownIn, OuterThere, OuterNames, LetIn};
 
 // ---- the view

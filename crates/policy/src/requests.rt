@@ -1,14 +1,14 @@
 // The requests that change the book, as calls: each makes every check itself, then plans, then applies.
 // The five tables are iv, it, ov, ot, rs: inner vertices and tokens, outer vertices and tokens, resources. Order rows are three numbers each.
-use crate::apply::apply_insert;
-use crate::apply::apply_join;
-use crate::apply::apply_revoke;
-use crate::grant::apply_grant;
-use crate::judge::judge_grant;
-use crate::judge::judge_insert;
-use crate::judge::judge_join;
-use crate::judge::judge_revoke;
-use crate::plan::Judged;
+use apply::apply_insert;
+use apply::apply_join;
+use apply::apply_revoke;
+use apply::grant::apply_grant;
+use plan::Judged;
+use plan::judge::judge_grant;
+use plan::judge::judge_insert;
+use plan::judge::judge_join;
+use plan::judge::judge_revoke;
 use rules::Changed;
 use rules::Head;
 use rules::Resource;

@@ -1,6 +1,6 @@
 -- `policy::open::chain_lengths` meets its contract. Assumes nothing.
 use Rattle.layer.specs.Laid.{resourceIs}
-use Rattle.policy.proofs.ReadyLaws.{sizes}
+use Rattle.plan.proofs.ReadyLaws.{sizes}
 use Rattle.policy.proofs.OpenLaws.{user-below, inner-kept, outer-kept, inner-there, outer-names, lengths-are}
 use borrow.Author.Needs.{needs}
 use Rattle.policy.proofs.open.chain_lengths.Statement.{statement}

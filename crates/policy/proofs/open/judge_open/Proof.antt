@@ -5,7 +5,7 @@ use denote.Enum.Declared.{tagOf}
 use Rattle.rules.proofs.View.{the-type}
 use Rattle.rules.specs.Bytes.{tables}
 use Rattle.policy.specs.Open.{Opening}
-use Rattle.policy.proofs.PartLaws.{there}
+use Rattle.plan.proofs.PartLaws.{there}
 use Rattle.policy.proofs.OpenLaws.{few, not-open, opening, open-no-such, open-closed, open-short, open-go}
 use borrow.Author.Needs.{needs}
 use Rattle.policy.proofs.open.judge_open.Statement.{statement}

@@ -4,7 +4,7 @@ use mathlib.Core.Path.{refl}
 use native.Mathlib.Omega.{arith}
 use lib.ListN.{length}
 use Rattle.layer.specs.Laid.{resourceIs}
-use Rattle.policy.proofs.ReadyLaws.{sizes}
+use Rattle.plan.proofs.ReadyLaws.{sizes}
 use Rattle.policy.proofs.OpenLaws.{user-below, inner-kept, outer-kept, inner-there, let-in, outer-names, inner-room, starts-within, outer-room, both-stored}
 use borrow.Author.Needs.{needs}
 use Rattle.policy.proofs.open.put_chains.Statement.{statement}

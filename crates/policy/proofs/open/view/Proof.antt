@@ -1,6 +1,6 @@
 -- `policy::open::view` meets its contract. Assumes nothing.
 use Rattle.rules.specs.Bytes.{tables}
-use Rattle.policy.proofs.PartLaws.{there}
+use Rattle.plan.proofs.PartLaws.{there}
 use Rattle.policy.proofs.OpenLaws.{checked-ready, view-refused, view-no-such, view-told}
 use borrow.Author.Needs.{needs}
 use Rattle.policy.proofs.open.view.Statement.{statement}

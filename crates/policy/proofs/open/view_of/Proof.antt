@@ -1,6 +1,6 @@
 -- `policy::open::view_of` meets its contract. Assumes nothing.
 use Rattle.layer.specs.Laid.{resourceIs}
-use Rattle.policy.proofs.ReadyLaws.{sizes}
+use Rattle.plan.proofs.ReadyLaws.{sizes}
 use Rattle.policy.proofs.OpenLaws.{user-below, inner-kept, inner-there, outer-there, viewed-is}
 use borrow.Author.Needs.{needs}
 use Rattle.policy.proofs.open.view_of.Statement.{statement}

@@ -1,0 +1,8 @@
+pub mod WriteLaws
+pub mod RelockLaws
+pub mod WorksLaws
+pub mod ApplyLaws
+pub mod GrantWorks
+pub mod GrantLaws
+pub mod GrantSteps
+pub mod InsertLaws

@@ -1,0 +1,4 @@
+pub mod Write
+pub mod Step
+pub mod Apply
+pub mod Grant

@@ -1,0 +1,127 @@
+// Applying a request that no refusal stops: the rows and the orders, in the order that the work is described.
+// The five tables are iv, it, ov, ot, rs: inner vertices and tokens, outer vertices and tokens, resources.
+use crate::step::lock_with;
+use crate::step::with_inner;
+use crate::write::add_resource;
+use crate::write::relist;
+use layer::cover::put_order;
+use layer::make::vertex_for;
+use layer::table::put_set;
+use layer::table::resource_in;
+use plan::Plan;
+use plan::inner_shape;
+use rules::Head;
+use rules::InnerVertex;
+use rules::InnerVertices;
+use rules::Joined;
+use rules::OuterVertices;
+use rules::Resource;
+use rules::Resources;
+use sets::User;
+use sets::Users;
+ghost use mathlib.Core.Path.{_≡_};
+ghost use Rattle.rules.specs.Bytes.{tables, bookIn};
+ghost use Rattle.rules.specs.Refusals.{joins, inserts, revokes};
+ghost use Rattle.rules.specs.Calls.{change};
+ghost use Rattle.plan.specs.Judge.{planOf};
+ghost use Rattle.apply.specs.Apply.{Accepted, applied};
+
+pub mod grant;
+pub mod step;
+pub mod write;
+
+// The head after a request, and how many orders it gave.
+pub struct Applied {
+    pub head: Head,
+    pub count: u16,
+}
+
+pub fn apply_join(
+    h: Head,
+    iv: &mut [u8],
+    it: &mut [u8],
+    ov: &mut [u8],
+    ot: &mut [u8],
+    rs: &mut [u8],
+    orders: &mut [u16],
+) -> Applied
+    requires { ⌜ Accepted joins h (tables (now iv) (now it) (now ov) (now ot) (now rs)) (now orders) ⌝ }
+    ensures { λ a. ⌜ applied a (tables (now (iv .exit)) (now (it .exit)) (now (ov .exit)) (now (ot .exit)) (now (rs .exit))) (now (orders .exit)) ≡ change joins h (tables (now (iv .entry)) (now (it .entry)) (now (ov .entry)) (now (ot .entry)) (now (rs .entry))) (now (orders .entry)) ⌝ }
+{
+    let s = Users::only(User(h.users.0));
+    let i = h.inner_vertices.0;
+    let o = h.outer_vertices.0;
+    put_set(iv, i as usize, s);
+    put_set(ov, o as usize, s);
+    put_order(orders, 0, 4, i, 0);
+    put_order(orders, 1, 1, o, 0);
+    let mut head = h;
+    let users = Joined(h.users.0 + 1);
+    let inner = InnerVertices(i + 1);
+    let outer = OuterVertices(o + 1);
+    head.users = users;
+    head.inner_vertices = inner;
+    head.outer_vertices = outer;
+    Applied { head, count: 2 }
+}
+
+pub fn apply_insert(
+    h: Head,
+    iv: &mut [u8],
+    it: &mut [u8],
+    ov: &mut [u8],
+    ot: &mut [u8],
+    rs: &mut [u8],
+    orders: &mut [u16],
+    l: Users,
+    p: Plan,
+) -> Applied
+    requires { ⌜ Accepted (inserts (l .0)) h (tables (now iv) (now it) (now ov) (now ot) (now rs)) (now orders) ⌝ }
+    requires { ⌜ p ≡ planOf (inserts (l .0)) (bookIn h (tables (now iv) (now it) (now ov) (now ot) (now rs))) ⌝ }
+    ensures { λ a. ⌜ applied a (tables (now (iv .exit)) (now (it .exit)) (now (ov .exit)) (now (ot .exit)) (now (rs .exit))) (now (orders .exit)) ≡ change (inserts (l .0)) h (tables (now (iv .entry)) (now (it .entry)) (now (ov .entry)) (now (ot .entry)) (now (rs .entry))) (now (orders .entry)) ⌝ }
+{
+    let m = vertex_for(iv, it, inner_shape(h), l, orders, 0, 4, 5);
+    let n = h.resources.0;
+    add_resource(rs, n as usize, l, InnerVertex(m.vertex), orders, m.at);
+    let mut head = with_inner(h, m.shape);
+    let resources = Resources(n + 1);
+    head.resources = resources;
+    if p.free {
+        return Applied {
+            head,
+            count: (m.at + 1) as u16,
+        };
+    }
+    let a = lock_with(head, ov, ot, rs, orders, m.at + 1, n, l);
+    let after = a.head;
+    Applied {
+        head: after,
+        count: a.at as u16,
+    }
+}
+
+pub fn apply_revoke(
+    h: Head,
+    iv: &mut [u8],
+    it: &mut [u8],
+    ov: &mut [u8],
+    ot: &mut [u8],
+    rs: &mut [u8],
+    orders: &mut [u16],
+    r: Resource,
+    u: User,
+) -> Applied
+    requires { ⌜ Accepted (revokes (r .0) (u .0)) h (tables (now iv) (now it) (now ov) (now ot) (now rs)) (now orders) ⌝ }
+    ensures { λ a. ⌜ applied a (tables (now (iv .exit)) (now (it .exit)) (now (ov .exit)) (now (ot .exit)) (now (rs .exit))) (now (orders .exit)) ≡ change (revokes (r .0) (u .0)) h (tables (now (iv .entry)) (now (it .entry)) (now (ov .entry)) (now (ot .entry)) (now (rs .entry))) (now (orders .entry)) ⌝ }
+{
+    let n = h.resources.0 as usize;
+    let x = resource_in(rs, n, r.0 as usize);
+    let list = x.list.without(u);
+    relist(rs, n, r.0, list);
+    let a = lock_with(h, ov, ot, rs, orders, 0, r.0, list);
+    let head = a.head;
+    Applied {
+        head,
+        count: a.at as u16,
+    }
+}

@@ -1,0 +1,4 @@
+pub mod ReadyLaws
+pub mod PartLaws
+pub mod JudgeLaws
+pub mod WaitLaws
