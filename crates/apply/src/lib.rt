@@ -1,5 +1,6 @@
 // Applying a request that no refusal stops: the rows and the orders, in the order that the work is described.
 // The five tables are iv, it, ov, ot, rs: inner vertices and tokens, outer vertices and tokens, resources.
+use crate::grant::apply_grant;
 use crate::step::lock_with;
 use crate::step::with_inner;
 use crate::write::add_resource;
@@ -9,6 +10,7 @@ use layer::make::vertex_for;
 use layer::table::put_set;
 use layer::table::resource_in;
 use plan::Plan;
+use plan::Request;
 use plan::inner_shape;
 use rules::Head;
 use rules::InnerVertex;
@@ -23,7 +25,7 @@ ghost use mathlib.Core.Path.{_≡_};
 ghost use Rattle.rules.specs.Bytes.{tables, bookIn};
 ghost use Rattle.rules.specs.Refusals.{joins, inserts, revokes};
 ghost use Rattle.rules.specs.Calls.{change};
-ghost use Rattle.plan.specs.Judge.{planOf};
+ghost use Rattle.plan.specs.Judge.{requestOf, planOf};
 ghost use Rattle.apply.specs.Apply.{Accepted, applied};
 
 pub mod grant;
@@ -123,5 +125,29 @@ pub fn apply_revoke(
     Applied {
         head,
         count: a.at as u16,
+    }
+}
+
+// Applying a request with its plan.
+pub fn apply(
+    h: Head,
+    iv: &mut [u8],
+    it: &mut [u8],
+    ov: &mut [u8],
+    ot: &mut [u8],
+    rs: &mut [u8],
+    orders: &mut [u16],
+    q: Request,
+    p: Plan,
+) -> Applied
+    requires { ⌜ Accepted (requestOf q) h (tables (now iv) (now it) (now ov) (now ot) (now rs)) (now orders) ⌝ }
+    requires { ⌜ p ≡ planOf (requestOf q) (bookIn h (tables (now iv) (now it) (now ov) (now ot) (now rs))) ⌝ }
+    ensures { λ a. ⌜ applied a (tables (now (iv .exit)) (now (it .exit)) (now (ov .exit)) (now (ot .exit)) (now (rs .exit))) (now (orders .exit)) ≡ change (requestOf q) h (tables (now (iv .entry)) (now (it .entry)) (now (ov .entry)) (now (ot .entry)) (now (rs .entry))) (now (orders .entry)) ⌝ }
+{
+    match q {
+        Request::Join => apply_join(h, iv, it, ov, ot, rs, orders),
+        Request::Insert(l) => apply_insert(h, iv, it, ov, ot, rs, orders, l, p),
+        Request::Grant(r, u) => apply_grant(h, iv, it, ov, ot, rs, orders, r, u, p),
+        Request::Revoke(r, u) => apply_revoke(h, iv, it, ov, ot, rs, orders, r, u),
     }
 }

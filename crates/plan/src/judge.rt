@@ -2,6 +2,7 @@
 // The five tables are iv, it, ov, ot, rs: inner vertices and tokens, outer vertices and tokens, resources.
 use crate::Judged;
 use crate::Plan;
+use crate::Request;
 use crate::inner_shape;
 use crate::waiting::count_waiting;
 use layer::holders::holders_of;
@@ -33,7 +34,7 @@ ghost use Rattle.rules.specs.Holders.{holders};
 ghost use Rattle.rules.specs.Refusals.{joins, inserts, grants, revokes};
 ghost use Rattle.layer.specs.Laid.{Laid, layerOf, resourceIs};
 ghost use Rattle.layer.specs.Make.{setsOnly};
-ghost use Rattle.plan.specs.Judge.{Ready, judged, limited, holdersAre, innerShape, Few, lockPart, settledPart, groupPart, joint, afterOf, waitersOf, grantPart, grantPlan};
+ghost use Rattle.plan.specs.Judge.{Ready, requestOf, judged, limited, holdersAre, innerShape, Few, lockPart, settledPart, groupPart, joint, afterOf, waitersOf, grantPart, grantPlan};
 
 // The rows that a request would leave, and the orders it would give.
 pub struct After {
@@ -369,4 +370,26 @@ pub fn judge_grant(
     let p = grant_plan(h, iv, it, x, u);
     let s = grant_part(h, ov, rs, r, u, x, p);
     limits(grant_after(h, p.token, s), room, p)
+}
+
+// The refusals of a request from 1 on, else its plan.
+pub fn judge(
+    h: Head,
+    iv: &[u8],
+    it: &[u8],
+    ov: &[u8],
+    ot: &[u8],
+    rs: &[u8],
+    q: Request,
+    room: usize,
+) -> Judged
+    requires { ⌜ Ready h (tables (now iv) (now it) (now ov) (now ot) (now rs)) ⌝ }
+    ensures { λ j. ⌜ j ≡ judged (requestOf q) (bookIn h (tables (now (iv .entry)) (now (it .entry)) (now (ov .entry)) (now (ot .entry)) (now (rs .entry)))) room ⌝ }
+{
+    match q {
+        Request::Join => judge_join(h, iv, it, ov, ot, rs, room),
+        Request::Insert(l) => judge_insert(h, iv, it, ov, ot, rs, l, room),
+        Request::Grant(r, u) => judge_grant(h, iv, it, ov, ot, rs, r, u, room),
+        Request::Revoke(r, u) => judge_revoke(h, iv, it, ov, ot, rs, r, u, room),
+    }
 }

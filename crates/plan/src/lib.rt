@@ -4,12 +4,22 @@ use rules::Head;
 use rules::InnerTokens;
 use rules::OuterTokens;
 use rules::Refusal;
+use rules::Resource;
+use sets::User;
 use sets::Users;
 ghost use mathlib.Core.Path.{_≡_};
 ghost use Rattle.plan.specs.Judge.{innerShape, outerShape};
 
 pub mod judge;
 pub mod waiting;
+
+// A request that changes the book.
+pub enum Request {
+    Join,
+    Insert(Users),
+    Grant(Resource, User),
+    Revoke(Resource, User),
+}
 
 // What applying a request needs to know: whether the folder will have no outer key, whether a kind 1 token is added, and the holders before.
 pub struct Plan {
