@@ -1,7 +1,7 @@
 -- The work of an accepted request on the tables: the room that each of its steps has, and that the steps are the work that the rules give.
 -- Assumes nothing.
 use Prim.Native.Nat.{ℕ, _+_, _*_, _^_, _≤_, _<_}
-use mathlib.Core.Path.{_≡_, refl, sym, ap, ap₂, _∙_}
+use mathlib.Core.Path.{_≡_, refl, sym, ap, ap₂, _∙_, subst}
 use mathlib.Core.Bool.{true}
 use mathlib.Core.List.{List, [], _∷_, _++_}
 use native.Mathlib.Nat.{mul-le-mul-right}
@@ -37,7 +37,9 @@ use Rattle.layer.proofs.Read.{length-sets, layer-sets, layer-tokens}
 use Rattle.layer.proofs.MakeLaws.{sets-made}
 use Rattle.plan.specs.Waiting.{row}
 use Rattle.apply.specs.Write.{Resources, listed}
-use Rattle.plan.specs.Judge.{outerShape}
+use Rattle.plan.specs.Judge.{requestOf, planOf, outerShape}
+use Rattle.plan.specs.declared.Plan.{Plan}
+use Rattle.plan.specs.declared.Request as asks
 use Rattle.apply.specs.Apply.{Past, Works, lockWith, LockRoom, Accepted, applied}
 use Rattle.apply.specs.declared.step.Step.{Step}
 use Rattle.plan.proofs.ReadyLaws.{Sizes, sizes, resources-count, users-count, inner-count, outer-count, row-read}
@@ -263,3 +265,9 @@ module _ (h : Head) (iv it ov ot rs list : List ℕ) (ok : Accepted joins h (tab
 
     pub join-done : TableBytes (tables iv' it ov' ot rs) → applied (record { head = withUser h; count = 2 }) (tables iv' it ov' ot rs) l2 ≡ change joins h before list
     join-done bytes = works-change joins h before (tables iv' it ov' ot rs) list l2 (record { head = withUser h; count = 2 }) (step (withUser h) 2) ok bytes join-works refl refl
+
+-- ---- a request as the code is handed it
+
+pub as-asked : {q r : asks.Request} (h : Head) (t : Tables) (list : List ℕ) (p : Plan) → q ≡ r
+    → Accepted (requestOf q) h t list × (p ≡ planOf (requestOf q) (bookIn h t)) → Accepted (requestOf r) h t list × (p ≡ planOf (requestOf r) (bookIn h t))
+as-asked {q} {r} h t list p e a = subst (λ (x : asks.Request). Accepted (requestOf x) h t list × (p ≡ planOf (requestOf x) (bookIn h t))) e a
