@@ -10,7 +10,6 @@ use Rattle.sets.specs.Sets.{within, inside, size, single}
 use Rattle.rules.specs.Lists.{some}
 use Rattle.rules.specs.Layer.{Layer, token, setOf}
 use Rattle.rules.specs.Book.{Resource, none, hasOuter}
-use Rattle.rules.specs.Holders.{into, sources}
 use Rattle.rules.specs.declared.Token.{Token}
 use Rattle.sound.specs.declared.layers.Rule.{Rule}
 use Rattle.sound.specs.declared.layers.Rule.the-variants.{S2, S4, S6}
@@ -36,9 +35,9 @@ keeps r L t = keepsBy r (t .kind) (setOf L (t .from)) (setOf L (t .to))
 unfoldable pub repeated : List ℕ → ℕ → Bool
 repeated sets i = some (λ s. eqb s (getD sets i 0)) (take i sets)
 
--- S5 of vertex v (`unitedVertex`)
-unfoldable pub unitedAt : Layer → ℕ → Bool
-unitedAt L v = eqb (size (setOf L v)) 1 || eqb (setOf L v) (sources L (into 0 v (L .tokens)))
+-- S5 of a vertex (`unitedVertex`) with the set s, where the union of its sources' sets is u
+abbrev pub unitedBy : ℕ → ℕ → Bool
+unitedBy s u = eqb (size s) 1 || eqb s u
 
 -- the same source and target
 abbrev pub sameEnds : Token → Token → Bool

@@ -1,5 +1,5 @@
 // The rules of a sound book that speak of one layer. Each function answers the first row that breaks its rule.
-use layer::holders::sources_into;
+use layer::holders::unions;
 use layer::table::Found;
 use layer::table::find_set;
 use layer::table::set_of;
@@ -15,7 +15,7 @@ ghost use Rattle.rules.specs.Lists.{first, upTo, numbered};
 ghost use Rattle.rules.specs.Bytes.{setsIn, tokensIn};
 ghost use Rattle.rules.specs.Sound.{joinedSet, unitedVertex, rising, lateral};
 ghost use Rattle.layer.specs.Laid.{Laid, layerOf, foundIn};
-ghost use Rattle.sound.specs.Faults.{placedIn, hasOwnIn, keeps, keepsBy, repeated, again, againInto, unitedAt, Ends, Sources512};
+ghost use Rattle.sound.specs.Faults.{placedIn, hasOwnIn, keeps, keepsBy, repeated, again, againInto, unitedBy, Ends, Sources512};
 
 // Whether a set names joined users only, where n have joined.
 pub fn joined(s: Users, n: u16) -> bool
@@ -127,28 +127,24 @@ pub fn equal_set(vertices: &[u8], n: usize) -> Found
     Found::Nothing
 }
 
-// Whether vertex v is a user's own or has the union of its sources' sets.
-fn united(tokens: &[u8], vertices: &[u8], l: Shape, v: usize) -> bool
-    requires { ⌜ Laid l (now tokens) (now vertices) ⌝ }
-    requires { ⌜ (v < l .vertices) × (l .vertices < 65536) ⌝ }
-    ensures { λ r. ⌜ r ≡ unitedAt (layerOf l (now (tokens .entry)) (now (vertices .entry))) v ⌝ }
+// Whether a vertex with this set is a user's own, or the set is the union of its sources' sets.
+fn united(s: Users, all: Users) -> bool
+    ensures { λ r. ⌜ r ≡ unitedBy (s .0) (all .0) ⌝ }
 {
-    let s = set_of(vertices, l.vertices, v);
-    if s.size() == 1 {
-        return true;
-    }
-    s.0 == sources_into(tokens, vertices, l, 0, v as u16).0
+    s.size() == 1 || s.0 == all.0
 }
 
 // S5: the first group vertex whose set is not the union of its sources' sets.
 pub fn ununited(tokens: &[u8], vertices: &[u8], l: Shape) -> Found
     requires { ⌜ Laid l (now tokens) (now vertices) ⌝ }
-    requires { ⌜ l .vertices < 65536 ⌝ }
+    requires { ⌜ l .vertices ≤ 512 ⌝ }
     ensures { λ r. ⌜ r ≡ foundIn (l .vertices) (first (λ v. not (unitedVertex (layerOf l (now (tokens .entry)) (now (vertices .entry))) v)) (numbered 0 (setsIn (l .vertices) (now (vertices .entry))))) ⌝ }
 {
+    let all = unions(tokens, vertices, l, 0);
     let mut v: usize = 0;
     while v < l.vertices {
-        if !united(tokens, vertices, l, v) {
+        let union = all[v];
+        if !united(set_of(vertices, l.vertices, v), Users(union)) {
             return Found::At(v);
         }
         v += 1;

@@ -2,8 +2,6 @@
 -- Assumes nothing.
 use borrow.Author.Needs.{needs}
 use mathlib.Core.Path.{refl}
-use native.Mathlib.Nat.{lt-of-le-of-lt}
-use lib.Dec.{lit≤}
 use Rattle.sound.proofs.Answers.{told, stop, on, last}
 use Rattle.sound.proofs.RuleParts.{s5-parts}
 use Rattle.sound.proofs.Required.{inner-laid, outer-laid, inner-few, outer-few}
@@ -16,7 +14,7 @@ inner-shape-requires c κs = search needs
 ununited-requires : tie.Need-ununited-requires
 ununited-requires c κs =
     let start = c .before .before .before .before .before .before in
-    (inner-laid _ _ (start .pre .1) (c .inner-shape .ensures) (start .pre .0), lt-of-le-of-lt (inner-few _ _ (start .pre .1) (c .inner-shape .ensures)) (lit≤ tt))
+    (inner-laid _ _ (start .pre .1) (c .inner-shape .ensures) (start .pre .0), inner-few _ _ (start .pre .1) (c .inner-shape .ensures))
 
 nothing-requires : tie.Need-nothing-requires
 nothing-requires c κs = search needs
@@ -31,7 +29,7 @@ ununited-requires-2 : tie.Need-ununited-requires-2
 ununited-requires-2 c κs =
     let past1 = c .before in
     let start = past1 .before .before .before .before .before .before .before .before .before in
-    (outer-laid _ _ (start .pre .1) (c .outer-shape .ensures) (start .pre .0), lt-of-le-of-lt (outer-few _ _ (start .pre .1) (c .outer-shape .ensures)) (lit≤ tt))
+    (outer-laid _ _ (start .pre .1) (c .outer-shape .ensures) (start .pre .0), outer-few _ _ (start .pre .1) (c .outer-shape .ensures))
 
 nothing-requires-2 : tie.Need-nothing-requires-2
 nothing-requires-2 c κs = search needs

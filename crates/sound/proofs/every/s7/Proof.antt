@@ -3,7 +3,7 @@
 use borrow.Author.Needs.{needs}
 use Rattle.sound.proofs.Answers.{told, last}
 use Rattle.sound.proofs.RuleParts.{s7-parts}
-use Rattle.sound.proofs.Required.{inner-laid, inner-vertices}
+use Rattle.sound.proofs.Required.{inner-laid, inner-few, inner-vertices}
 use Rattle.sound.proofs.every.s7.Statement.{statement}
 use Rattle.sound.proofs.every.s7.Tie as tie
 
@@ -17,7 +17,7 @@ unheld-requires : tie.Need-unheld-requires
 unheld-requires c κs =
     let start = c .before .before .before .before .before .before .before in (
       (start .pre .0 .resources, inner-vertices _ _ (start .pre .1) (c .inner-shape .ensures)),
-      inner-laid _ _ (start .pre .1) (c .inner-shape .ensures) (start .pre .0),
+      (inner-laid _ _ (start .pre .1) (c .inner-shape .ensures) (start .pre .0), inner-few _ _ (start .pre .1) (c .inner-shape .ensures)),
     )
 
 nothing-requires : tie.Need-nothing-requires

@@ -3,7 +3,7 @@
 use borrow.Author.Needs.{needs}
 use Rattle.sound.proofs.Answers.{told, last}
 use Rattle.sound.proofs.RuleParts.{s8-parts}
-use Rattle.sound.proofs.Required.{inner-laid, inner-vertices, outer-vertices}
+use Rattle.sound.proofs.Required.{inner-laid, inner-few, inner-vertices, outer-vertices}
 use Rattle.sound.proofs.every.s8.Statement.{statement}
 use Rattle.sound.proofs.every.s8.Tie as tie
 
@@ -20,7 +20,7 @@ unlocked-requires : tie.Need-unlocked-requires
 unlocked-requires c κs =
     let start = c .before .before .before .before .before .before .before .before in (
       (start .pre .0 .resources, inner-vertices _ _ (start .pre .1) (c .inner-shape .ensures), outer-vertices _ _ (start .pre .1)),
-      (inner-laid _ _ (start .pre .1) (c .inner-shape .ensures) (start .pre .0), start .pre .0 .outerVertices),
+      (inner-laid _ _ (start .pre .1) (c .inner-shape .ensures) (start .pre .0), (inner-few _ _ (start .pre .1) (c .inner-shape .ensures), start .pre .0 .outerVertices)),
     )
 
 nothing-requires : tie.Need-nothing-requires
