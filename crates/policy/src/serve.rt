@@ -39,7 +39,7 @@ pub enum Asks {
 }
 
 // A request of two numbers, each of 16 bits: kinds 2 to 4.
-fn asks_of_two(kind: u64, a: u16, b: u16) -> Asks
+fn pair_asks(kind: u64, a: u16, b: u16) -> Asks
     requires { ⌜ 2 ≤ kind ⌝ }
     ensures { λ q. ⌜ askedOf q ≡ asked kind a b ⌝ }
 {
@@ -56,7 +56,7 @@ fn asks_of_two(kind: u64, a: u16, b: u16) -> Asks
 }
 
 // What a row asks: 0 join; 1 insert; 2 grant; 3 revoke; 4 open.
-fn asks(kind: u64, a: u64, b: u64) -> Asks
+fn row_asks(kind: u64, a: u64, b: u64) -> Asks
     ensures { λ q. ⌜ askedOf q ≡ narrow (asked kind a b) ⌝ }
 {
     if kind == 0 {
@@ -71,7 +71,7 @@ fn asks(kind: u64, a: u64, b: u64) -> Asks
     if a > 65535 || b > 65535 {
         return Asks::Nothing;
     }
-    asks_of_two(kind, a as u16, b as u16)
+    pair_asks(kind, a as u16, b as u16)
 }
 
 // ---- one request
@@ -237,7 +237,7 @@ fn serve_all(
     let mut i: usize = 0;
     while i < requests.len() / 3 {
         let at = i * 3;
-        let q = asks(requests[at], requests[at + 1], requests[at + 2]);
+        let q = row_asks(requests[at], requests[at + 1], requests[at + 2]);
         let a = answer_one(head, iv, it, ov, ot, rs, &mut orders[used * 3..], q);
         put_order(answers, i, a.number, a.view, a.count);
         head = a.head;
