@@ -6,7 +6,7 @@ use mathlib.Core.Bool.{Bool, true, false, _&&_, _||_, not, cond}
 use mathlib.Core.List.{List, [], _∷_, List·Memᴰ}
 use lib.Dec.{eqb, ltb, leb}
 use lib.ListN.{length, take, getD}
-use Rattle.sets.specs.Sets.{within, inside, size, single}
+use Rattle.sets.specs.Sets.{has, within, inside, size, single}
 use Rattle.rules.specs.Lists.{some}
 use Rattle.rules.specs.Layer.{Layer, token, setOf}
 use Rattle.rules.specs.Book.{Resource, none, hasOuter}
@@ -22,6 +22,10 @@ placedIn n t = leb (t .kind) 1 && ltb (t .from) n && ltb (t .to) n
 -- S2 (`hasOwn`), by the sets alone
 abbrev pub hasOwnIn : List ℕ → ℕ → Bool
 hasOwnIn sets u = some (λ s. eqb s (single u)) sets
+
+-- s names the users who have a vertex of their own
+pub record Owners (sets : List ℕ) (s : ℕ) : Type 0 where
+  pub owns : (u : ℕ) → has s u ≡ hasOwnIn sets u
 
 -- S2, S4 and S6 of a token of kind k between the sets a and b (`entersGroup`, `risingRow`, `lateralRow`)
 abbrev pub keepsBy : Rule → ℕ → ℕ → ℕ → Bool
@@ -48,14 +52,7 @@ sameEnds s t = eqb (s .from) (t .from) && eqb (s .to) (t .to)
 unfoldable pub again : List Token → ℕ → Bool
 again ts i = some (λ s. sameEnds s (getD ts i (token 0 0 0))) (take i ts)
 
--- and leads to v
-unfoldable pub againInto : List Token → ℕ → ℕ → Bool
-againInto ts v i = eqb (getD ts i (token 0 0 0) .to) v && again ts i
-
--- the tokens' sources are below 512; their ends are among n vertices
-abbrev pub Sources512 : List Token → Type 0
-Sources512 ts = (t : Token) → List·Memᴰ t ts → t .from < 512
-
+-- the tokens' ends are among n vertices
 abbrev pub Ends : ℕ → List Token → Type 0
 Ends n ts = (t : Token) → List·Memᴰ t ts → (t .from < n) × (t .to < n)
 
