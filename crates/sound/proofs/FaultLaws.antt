@@ -1,5 +1,5 @@
--- Tests of the rules of one layer by what the code reads: a set of joined users by a shift, whether a vertex has a set by the search for it, and a
--- token's rule by the sets at its ends.
+-- Tests of the rules of one layer by what the code reads: a set of joined users by a shift, the users with a vertex of their own by a union, whether a
+-- vertex has a set by the search for it, and a token's rule by the sets at its ends.
 -- Assumes nothing.
 use Prim.Native.Nat.{ℕ, _+_, _*_, _/_, _^_, _≤_, _<_}
 use mathlib.Core.Path.{_≡_, refl, sym, ap, ap₂, _∙_}
@@ -13,7 +13,7 @@ use lib.Pow.{pow-pos}
 use lib.ListN.{length, take, getD}
 use lib.Seq.{take-all, take-suc}
 use borrow.Author.Tests.{ltb-true, ltb-false, eqb-true, eq-eqb, ne-eqb}
-use Rattle.sets.specs.Sets.{has, single, union, size}
+use Rattle.sets.specs.Sets.{has, single, union, inside, size}
 use Rattle.sets.proofs.Laws.{has-empty, has-union, has-own, single-of-size, size-single}
 use Rattle.rules.specs.Lists.{first, some}
 use Rattle.rules.specs.Layer.{Layer, setOf}
@@ -28,6 +28,7 @@ use Rattle.layer.proofs.Read.{length-sets, sets-front}
 use Rattle.layer.proofs.Steps.{some-found, none-found}
 use Rattle.sound.specs.Faults.{hasOwnIn, Owners, keeps, keepsBy, repeated}
 use Rattle.sound.specs.declared.layers.Rule.{Rule}
+use Rattle.sound.specs.declared.layers.Rule.the-variants.{S4}
 use Rattle.sound.proofs.Answers.{same}
 
 -- S1: nothing is left of the set past the first n users
@@ -41,19 +42,6 @@ joined-shift n s = go (ltb s (2 ^ n)) refl
         let more : s / 2 ^ n ≡ 0 → ⊥ =
         λ z. let l : s < 1 * 2 ^ n = div-lt-iff-lt-mul (pow-pos n) .0 (omega arith) in omega (arith, one-mul (2 ^ n), ltb-false s (2 ^ n) e) in
         ne-eqb (s / 2 ^ n) 0 more ∙ sym e
-
--- S2 and S3: whether one of n vertices has the set x, by the answer r of the search for it
-module _ (n : ℕ) (vs : List ℕ) {s x : ℕ} (k : s ≡ x) {r : Found} (e : r ≡ foundIn n (first (isSet s) (setsIn n vs))) where
-  pub set-found : {i : ℕ} → r ≡ At i → some (isSet x) (setsIn n vs) ≡ true
-  set-found a = rw k at (some-found (isSet s) (setsIn n vs) n (length-sets n vs) e a)
-
-  pub set-missing : r ≡ Nothing → some (isSet x) (setsIn n vs) ≡ false
-  set-missing a = rw k at (none-found (isSet s) (setsIn n vs) n (length-sets n vs) e a)
-
--- S3: the vertices before vertex i are the first i of the table
-pub repeated-before : (n : ℕ) (vs : List ℕ) (i : ℕ) → i ≤ n → repeated (setsIn n vs) i ≡ some (isSet (getD (setsIn n vs) i 0)) (setsIn i vs)
-unfolding repeated
-repeated-before n vs i h = ap (some (isSet (getD (setsIn n vs) i 0))) (sets-front n vs i h)
 
 -- S2: the users who have one of the sets for themselves
 
@@ -85,6 +73,23 @@ module _ (sets : List ℕ) {i own : ℕ} (h : Owners (take i sets) own) where
 -- whether user u is one of them, by the answer r
 pub owner-told : {sets : List ℕ} {s : ℕ} (u : ℕ) {r b : Bool} → Owners sets s → r ≡ has s u → not r ≡ b → not (hasOwnIn sets u) ≡ b
 owner-told u h e q = ap not (sym (h .owns u) ∙ sym e) ∙ q
+
+-- S3: whether one of n vertices has the set x, by the answer r of the search for it
+module _ (n : ℕ) (vs : List ℕ) {s x : ℕ} (k : s ≡ x) {r : Found} (e : r ≡ foundIn n (first (isSet s) (setsIn n vs))) where
+  pub set-found : {i : ℕ} → r ≡ At i → some (isSet x) (setsIn n vs) ≡ true
+  set-found a = rw k at (some-found (isSet s) (setsIn n vs) n (length-sets n vs) e a)
+
+  pub set-missing : r ≡ Nothing → some (isSet x) (setsIn n vs) ≡ false
+  set-missing a = rw k at (none-found (isSet s) (setsIn n vs) n (length-sets n vs) e a)
+
+-- S3: the vertices before vertex i are the first i of the table
+pub repeated-before : (n : ℕ) (vs : List ℕ) (i : ℕ) → i ≤ n → repeated (setsIn n vs) i ≡ some (isSet (getD (setsIn n vs) i 0)) (setsIn i vs)
+unfolding repeated
+repeated-before n vs i h = ap (some (isSet (getD (setsIn n vs) i 0))) (sets-front n vs i h)
+
+-- S4 of a token of kind k between the sets a and b, by the answer r at the last of its tests
+pub rises : (k a b : ℕ) {r : Bool} → (k ≡ 1 → ⊥) → (a ≡ 0 → ⊥) → r ≡ inside a b → r ≡ keepsBy S4 k a b
+rises k a b n z e = rw (ne-eqb k 1 n, ne-eqb a 0 z) e
 
 -- S2, S4 and S6 of a token, by the answer r at the sets that were read at its ends
 pub keeps-read : (rule : Rule) (L : Layer) (t : Token) {a b : ℕ} {r : Bool} → a ≡ setOf L (t .from) → b ≡ setOf L (t .to) → r ≡ keepsBy rule (t .kind) a b

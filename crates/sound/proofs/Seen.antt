@@ -1,10 +1,10 @@
 -- S3 and S6, "no two equal", as the code looks for them: a pass over the rows, with a mark for each row that was met.
 -- Assumes nothing.
-use Prim.Native.Nat.{ℕ, _+_, _*_, _/_, _%_, _≤_, _<_}
+use Prim.Native.Nat.{ℕ, _+_, _*_, _/_, _%_, _<_}
 use mathlib.Core.Path.{_≡_, refl, sym, ap, ap₂, _∙_}
-use mathlib.Core.Bool.{Bool, true, false, _&&_, _||_, or-false, true≢false}
+use mathlib.Core.Bool.{Bool, true, false, _||_, or-false, true≢false}
 use mathlib.Core.List.{List, List·Memᴰ}
-use native.Mathlib.Nat.{mod-lt, div-add-mod', zero-lt-suc}
+use native.Mathlib.Nat.{div-add-mod'}
 use native.Mathlib.Numerals.{add-one}
 use native.Mathlib.Decide.{ℕ-discrete}
 use native.Mathlib.Omega.{arith}
@@ -17,10 +17,9 @@ use Rattle.sets.proofs.Laws.{both, has-union, has-single, has-empty}
 use Rattle.rules.specs.Lists.{first, some, upTo}
 use Rattle.rules.specs.Layer.{token}
 use Rattle.rules.specs.declared.Token.{Token}
-use Rattle.theorems.proofs.ListLaws.{getD-mem, some-append, some-more, take-mem}
+use Rattle.theorems.proofs.ListLaws.{some-append, some-more, take-mem}
 use Rattle.layer.specs.Laid.{foundIn}
-use Rattle.layer.specs.declared.table.Found.{Found}
-use Rattle.layer.specs.declared.table.Found.the-variants.{At, Nothing}
+use Rattle.layer.specs.declared.table.Found.the-variants.{At}
 use Rattle.layer.proofs.Search.{Passed, number-here, number-on}
 use Rattle.sound.specs.Faults.{repeated, sameEnds, again, Ends}
 use Rattle.sound.specs.Marks.{marked, withMark, markOf}
@@ -59,15 +58,15 @@ with-mark words k e = ap (set words (k / 64)) e
 
 -- ---- the rows xs, each with its mark f
 
-module _ {A : Type 0} (f : A → ℕ) (xs : List A) (c : ℕ) where
-  -- one of the first i has the mark j
-  abbrev pub met : ℕ → ℕ → Bool
-  met i j = some (λ x. eqb (f x) j) (take i xs)
+-- one of the first i has the mark j
+abbrev pub met : {A : Type 0} → (A → ℕ) → List A → ℕ → ℕ → Bool
+met f xs i j = some (λ x. eqb (f x) j) (take i xs)
 
+module _ {A : Type 0} (f : A → ℕ) (xs : List A) (c : ℕ) where
   -- the marks in c words say so
   pub record Met (i : ℕ) (words : List ℕ) : Type 0 where
     pub all : length words ≡ c
-    pub marks : (j : ℕ) → j < c * 64 → marked words j ≡ met i j
+    pub marks : (j : ℕ) → j < c * 64 → marked words j ≡ met f xs i j
 
   pub met-none : Met 0 (replicate c 0)
   unfolding some marked
@@ -88,12 +87,12 @@ module _ {A : Type 0} (f : A → ℕ) (xs : List A) (c : ℕ) where
           marks = λ j h. marked-more words k j (omega (arith, m .all)) ∙ ap (λ (b : Bool). b || eqb k j) (m .marks j h) ∙ sym (more j);
         })
       where
-        more : (j : ℕ) → met (i + 1) j ≡ (met i j || eqb k j)
-        more j = rw (q, e, add-one, take-suc xs i d, some-append) (ap (λ (b : Bool). met i j || b) (or-false _))
+        more : (j : ℕ) → met f xs (i + 1) j ≡ (met f xs i j || eqb k j)
+        more j = rw (q, e, add-one, take-suc xs i d, some-append) (ap (λ (b : Bool). met f xs i j || b) (or-false _))
 
     -- the answer r whether it was marked: an earlier row has its mark
-    pub met-before : {r : Bool} → r ≡ marked words k → r ≡ met i (f x)
-    met-before a = a ∙ m .marks k w ∙ ap (met i) q
+    pub met-before : {r : Bool} → r ≡ marked words k → r ≡ met f xs i (f x)
+    met-before a = a ∙ m .marks k w ∙ ap (met f xs i) q
 
 is-false : (b : Bool) → (b ≡ true → ⊥) → b ≡ false
 is-false true n = absurd (n refl)
@@ -115,7 +114,7 @@ module _ (sets : List ℕ) (n : ℕ) where
     pub set-new : r ≡ false → repeated sets i ≡ false
     unfolding repeated
     set-new z =
-        let none : met markOf sets 256 i (markOf x) ≡ false = sym (met-before markOf sets 256 0 (h .1) (omega arith) e (q .0) (q .1) b) ∙ z in
+        let none : met markOf sets i (markOf x) ≡ false = sym (met-before markOf sets 256 0 (h .1) (omega arith) e (q .0) (q .1) b) ∙ z in
         is-false (repeated sets i)
         (λ t. true≢false
         (sym
