@@ -5,4 +5,4 @@ pub mod Verdicts
 pub mod FaultLaws
 pub mod Reading
 pub mod United
-pub mod Repeats
+pub mod Seen

@@ -18,6 +18,7 @@ use Rattle.rules.specs.Bytes.{Tables, tables, Room, bookIn, headOf, tokensIn, r
 use Rattle.rules.specs.Sound.{S1, maxUsers, maxResources, maxTokens, maxGroups}
 use Rattle.rules.specs.Refusals.{short}
 use Rattle.rules.specs.declared.Head.{Head}
+use Rattle.rules.specs.declared.Token.{Token}
 use Rattle.theorems.proofs.ListLaws.{every-mem, getD-mem}
 use Rattle.theorems.proofs.SoundLaws.{Counts, counts-are}
 use Rattle.theorems.proofs.ByteLaws.{Long, short-long, head-in}
@@ -94,6 +95,9 @@ token-ends w n m ts e x i =
     let row = every-mem (placedIn m) (tokensIn w n ts) (sym (none-breaks (placedIn m) (tokensIn w n ts) (length-tokens w n ts)) ∙ e) i in
     let (front, to) = both (leb (x .kind) 1 && ltb (x .from) m) (ltb (x .to) m) row in
     (ltb-true (x .from) m (both (leb (x .kind) 1) (ltb (x .from) m) front .1), ltb-true (x .to) m to)
+
+pub ends-among : {m n : ℕ} {ts : List Token} → m ≤ n → Ends m ts → Ends n ts
+ends-among l e t m = (omega (arith, e t m .0), omega (arith, e t m .1))
 
 layer-laid : (l : Shape) (ts vs : List ℕ) → Held l ts vs → l .tokens < 65536 → Ends (l .vertices) (tokensIn (l .width) (l .tokens) ts) → Laid l ts vs
 unfolding layerOf tokenAt

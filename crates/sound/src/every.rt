@@ -175,10 +175,10 @@ fn s6(h: Head, iv: &[u8], it: &[u8], ov: &[u8], ot: &[u8], rs: &[u8]) -> bool
     if !nothing(token_fault(ot, ov, o, Rule::S6)) {
         return false;
     }
-    if !nothing(equal_token(it, i.width, i.tokens, i.vertices)) {
+    if !nothing(equal_token(it, i.width, i.tokens)) {
         return false;
     }
-    nothing(equal_token(ot, o.width, o.tokens, o.vertices))
+    nothing(equal_token(ot, o.width, o.tokens))
 }
 
 // S7: lists lie within the holders.

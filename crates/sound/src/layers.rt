@@ -1,4 +1,6 @@
 // The rules of a sound book that speak of one layer. Each function answers the first row that breaks its rule.
+use crate::marks::mark;
+use crate::marks::mark_of;
 use layer::holders::unions;
 use layer::table::Found;
 use layer::table::find_set;
@@ -15,7 +17,7 @@ ghost use Rattle.rules.specs.Lists.{first, upTo, numbered};
 ghost use Rattle.rules.specs.Bytes.{setsIn, tokensIn};
 ghost use Rattle.rules.specs.Sound.{joinedSet, unitedVertex, rising, lateral};
 ghost use Rattle.layer.specs.Laid.{Laid, layerOf, foundIn};
-ghost use Rattle.sound.specs.Faults.{placedIn, hasOwnIn, keeps, keepsBy, repeated, again, againInto, unitedBy, Ends, Sources512};
+ghost use Rattle.sound.specs.Faults.{placedIn, hasOwnIn, keeps, keepsBy, Owners, repeated, again, unitedBy, Ends};
 
 // Whether a set names joined users only, where n have joined.
 pub fn joined(s: Users, n: u16) -> bool
@@ -59,16 +61,34 @@ pub fn strange_token(tokens: &[u8], width: usize, n: usize, vertices: usize) -> 
     Found::Nothing
 }
 
+// The users who have a vertex of their own.
+fn owners(vertices: &[u8], n: usize) -> Users
+    requires { ⌜ n * 8 ≤ length (now vertices) ⌝ }
+    ensures { λ r. ⌜ Owners (setsIn n (now (vertices .entry))) (r .0) ⌝ }
+{
+    let mut own = Users(0);
+    let mut i: usize = 0;
+    while i < n {
+        let s = set_of(vertices, n, i);
+        if s.size() == 1 {
+            own = own.union(s);
+        }
+        i += 1;
+    }
+    own
+}
+
 // S2: the first user without a vertex of their own.
 pub fn ownless(vertices: &[u8], n: usize, users: u16) -> Found
     requires { ⌜ (n * 8 ≤ length (now vertices)) × (users ≤ 64) ⌝ }
     ensures { λ r. ⌜ r ≡ foundIn users (first (λ u. not (hasOwnIn (setsIn n (now (vertices .entry))) u)) (upTo users)) ⌝ }
 {
+    let own = owners(vertices, n);
     let mut u: u16 = 0;
     while u < users {
-        let Found::At(_) = find_set(vertices, n, Users::only(User(u))) else {
+        if !own.has(User(u)) {
             return Found::At(u as usize);
-        };
+        }
         u += 1;
     }
     Found::Nothing
@@ -110,17 +130,21 @@ pub fn token_fault(tokens: &[u8], vertices: &[u8], l: Shape, rule: Rule) -> Foun
     Found::Nothing
 }
 
-// S3: the first vertex whose set an earlier one has.
+// S3: the first vertex whose set an earlier one has. Only a set whose mark was met before is searched for among the earlier ones.
 pub fn equal_set(vertices: &[u8], n: usize) -> Found
     requires { ⌜ n * 8 ≤ length (now vertices) ⌝ }
     ensures { λ r. ⌜ r ≡ foundIn n (first (repeated (setsIn n (now (vertices .entry)))) (upTo n)) ⌝ }
 {
+    let mut met = [0u64; 256];
     let mut i: usize = 0;
     while i < n {
-        let found = find_set(vertices, i, set_of(vertices, n, i));
-        match found {
-            Found::At(_) => return Found::At(i),
-            Found::Nothing => {}
+        let s = set_of(vertices, n, i);
+        if mark(&mut met, mark_of(s)) {
+            let found = find_set(vertices, i, s);
+            match found {
+                Found::At(_) => return Found::At(i),
+                Found::Nothing => {}
+            }
         }
         i += 1;
     }
@@ -152,50 +176,20 @@ pub fn ununited(tokens: &[u8], vertices: &[u8], l: Shape) -> Found
     Found::Nothing
 }
 
-// The first token into v from a vertex that an earlier one comes from.
-fn again_into(tokens: &[u8], width: usize, n: usize, v: usize) -> Found
+// S6: the first token between two vertices that an earlier one is between. (Where S4 and S6's other half hold, such rows are equal.)
+pub fn equal_token(tokens: &[u8], width: usize, n: usize) -> Found
     requires { ⌜ (4 ≤ width) × (width ≤ 5) × (n * width ≤ length (now tokens)) ⌝ }
-    requires { ⌜ Sources512 (tokensIn width n (now tokens)) ⌝ }
-    ensures { λ r. ⌜ r ≡ foundIn n (first (againInto (tokensIn width n (now (tokens .entry))) v) (upTo n)) ⌝ }
+    requires { ⌜ Ends 512 (tokensIn width n (now tokens)) ⌝ }
+    ensures { λ r. ⌜ r ≡ foundIn n (first (again (tokensIn width n (now (tokens .entry)))) (upTo n)) ⌝ }
 {
-    let mut seen = [false; 512];
+    let mut met = [0u64; 4096];
     let mut i: usize = 0;
     while i < n {
         let t = token_in(tokens, width, n, i);
-        if t.to as usize == v {
-            let from = t.from as usize;
-            if seen[from] {
-                return Found::At(i);
-            }
-            seen[from] = true;
+        if mark(&mut met, t.to as usize * 512 + t.from as usize) {
+            return Found::At(i);
         }
         i += 1;
-    }
-    Found::Nothing
-}
-
-// S6: the first token between two vertices that an earlier one is between. (Where S4 and S6's other half hold, such rows are equal.)
-pub fn equal_token(tokens: &[u8], width: usize, n: usize, vertices: usize) -> Found
-    requires { ⌜ (4 ≤ width) × (width ≤ 5) × (n * width ≤ length (now tokens)) × (vertices ≤ 512) ⌝ }
-    requires { ⌜ Ends vertices (tokensIn width n (now tokens)) ⌝ }
-    ensures { λ r. ⌜ r ≡ foundIn n (first (again (tokensIn width n (now (tokens .entry)))) (upTo n)) ⌝ }
-{
-    let mut first = n;
-    let mut v: usize = 0;
-    while v < vertices {
-        let found = again_into(tokens, width, n, v);
-        match found {
-            Found::At(i) => {
-                if i < first {
-                    first = i;
-                }
-            }
-            Found::Nothing => {}
-        }
-        v += 1;
-    }
-    if first < n {
-        return Found::At(first);
     }
     Found::Nothing
 }

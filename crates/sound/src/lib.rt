@@ -17,6 +17,7 @@ ghost use Rattle.sound.specs.Check.{checked};
 
 pub mod every;
 pub mod layers;
+pub mod marks;
 pub mod resources;
 
 pub enum Checked {

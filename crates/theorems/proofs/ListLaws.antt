@@ -8,7 +8,7 @@ use mathlib.Core.List.{List, [], _∷_, _++_, map, List·Memᴰ, List·Memᴰ·h
 use native.Mathlib.Nat.{not-suc-le-zero, le-of-suc-le-suc, zero-lt-suc, add-suc, suc-add, add-zero, zero-add, le-refl}
 use native.Mathlib.Omega.{arith}
 use lib.Dec.{ltb, leb·suc-zero, leb·suc-suc}
-use lib.ListN.{length, getD}
+use lib.ListN.{length, take, getD}
 use borrow.Author.Tests.{lt-ltb}
 use Rattle.rules.specs.Lists.{every, some, keep, first, numbered, pairwise, tabulateFrom, tabulate, upTo}
 use Rattle.sets.proofs.Laws.{both}
@@ -168,6 +168,15 @@ module _ {A : Type 0} where
   unfolding some
   mem-some p (y ∷ xs) (List·Memᴰ·head e) h = rw (sym (ap p e) ∙ h)
   mem-some p (y ∷ xs) (List·Memᴰ·tail m) h = rw (mem-some p xs m h) (or-true (p y))
+
+  -- where each element that passes p passes q
+  pub some-more : (p q : A → Bool) (xs : List A) → ((x : A) → List·Memᴰ x xs → p x ≡ true → q x ≡ true) → some p xs ≡ true → some q xs ≡ true
+  some-more p q xs h e = let (x, m, k) = some-mem p xs e in mem-some q xs m (h x m k)
+
+  pub take-mem : (i : ℕ) (xs : List A) {x : A} → List·Memᴰ x (take i xs) → List·Memᴰ x xs
+  take-mem zero xs m = absurd (List·Memᴰ·not-nil m)
+  take-mem (suc i) (y ∷ xs) (List·Memᴰ·head e) = List·Memᴰ·head e
+  take-mem (suc i) (y ∷ xs) (List·Memᴰ·tail m) = List·Memᴰ·tail (take-mem i xs m)
 
   -- ---- first
 

@@ -3,7 +3,7 @@
 use borrow.Author.Needs.{needs}
 use Rattle.sound.proofs.Answers.{told, stop, on, last}
 use Rattle.sound.proofs.RuleParts.{s6-parts}
-use Rattle.sound.proofs.Required.{inner-held, outer-held, inner-laid, outer-laid, inner-few, outer-few, inner-ends, outer-ends}
+use Rattle.sound.proofs.Required.{inner-held, outer-held, inner-laid, outer-laid, inner-few, outer-few, inner-ends, outer-ends, ends-among}
 use Rattle.sound.proofs.every.s6.Statement.{statement}
 use Rattle.sound.proofs.every.s6.Tie as tie
 
@@ -53,7 +53,8 @@ equal-token-requires c κs =
     let shapes = past1 .before .before .before in
     let start = shapes .before .before .before .before .before .before .before in
     let h = inner-held _ _ (start .pre .0) (shapes .before .inner-shape .ensures) in
-    ((h .low, h .high, h .rows, inner-few _ _ (start .pre .1 .0) (shapes .before .inner-shape .ensures)), inner-ends _ _ (start .pre .1 .0) (shapes .before .inner-shape .ensures))
+    let e = shapes .before .inner-shape .ensures in
+    ((h .low, h .high, h .rows), ends-among (inner-few _ _ (start .pre .1 .0) e) (inner-ends _ _ (start .pre .1 .0) e))
 
 nothing-requires-3 : tie.Need-nothing-requires-3
 nothing-requires-3 c κs = search needs
@@ -75,7 +76,8 @@ equal-token-requires-2 c κs =
     let shapes = past1 .before .before .before in
     let start = shapes .before .before .before .before .before .before .before in
     let h = outer-held _ _ (start .pre .0) (shapes .outer-shape .ensures) in
-    ((h .low, h .high, h .rows, outer-few _ _ (start .pre .1 .0) (shapes .outer-shape .ensures)), outer-ends _ _ (start .pre .1 .0) (shapes .outer-shape .ensures))
+    let e = shapes .outer-shape .ensures in
+    ((h .low, h .high, h .rows), ends-among (outer-few _ _ (start .pre .1 .0) e) (outer-ends _ _ (start .pre .1 .0) e))
 
 nothing-requires-4 : tie.Need-nothing-requires-4
 nothing-requires-4 c κs = search needs
