@@ -22,7 +22,8 @@ use Rattle.rules.specs.declared.Changed.{Changed}
 use Rattle.theorems.proofs.RequestLaws.{Fits, common-none, verdict-append, limits-none}
 use Rattle.theorems.proofs.OrderLaws.{mostRows, rows-enough}
 use Rattle.theorems.proofs.ServeLaws.{length-orders}
-use Rattle.orders.specs.Records.{over, least, ordersIn, filled, countOf, recording, recordsBy, recordedBy, recorded}
+use Rattle.orders.specs.declared.Request.{Request as Asked}
+use Rattle.orders.specs.Records.{asked, over, least, ordersIn, filled, countOf, recording, recordsBy, recordedBy, recorded}
 use Rattle.orders.proofs.Records.{over-none, orders-back}
 
 -- ---- 10 on `room` rows is 10 on as many of them as can be needed
@@ -34,6 +35,9 @@ least-fits room = go (ltb room 385) refl
     go : (z : Bool) → ltb room 385 ≡ z → (cond z room 385 ≤ room) × (cond z room 385 ≤ 385)
     go true e = (omega arith, omega (arith, ltb-true room 385 e))
     go false e = (omega (arith, ltb-false room 385 e), omega arith)
+
+pub least-few : {n : ℕ} (room : ℕ) → n ≡ least room → n ≤ 385
+least-few {n} room e = omega (arith, e, least-fits room .1)
 
 short-same : (room n : ℕ) → n ≤ 385 → ltb room n ≡ ltb (least room) n
 unfolding least
@@ -84,6 +88,11 @@ filled-few q h t room rows = go (refusal t (bookIn h t) room q) refl
     go (some r) e = omega arith
     go none e = given-few t (bookIn h t) (least room) q (sym (room-enough t (bookIn h t) room q) ∙ e)
 
+-- ---- the request that was asked
+
+pub call-by : (h : Head) (t : Tables) (list : List ℕ) {asks given : Asked} {made : Change} → asks ≡ given → made ≡ change (asked given) h t list → made ≡ change (asked asks) h t list
+call-by h t list e k = k ∙ ap (λ (z : Asked). change (asked z) h t list) (sym e)
+
 -- ---- the request on a part of the numbers
 
 -- what is left of the numbers behind the part
@@ -111,7 +120,7 @@ pub filled-by : (q : Request) (h : Head) (t : Tables) (room : ℕ) (rows : List 
 unfolding filled change
 filled-by q h t room rows {n} l k e =
     let b = bookIn h t in
-    let there : n * 3 ≤ length rows = omega (arith, k, least-fits room .1) in
+    let there : n * 3 ≤ length rows = omega (arith, least-few room k) in
     let same : refusal t b (rowsLent (take (n * 3) rows)) q ≡ refusal t b room q = ap (λ (m : ℕ). refusal t b m q) (rows-lent n rows there ∙ k) ∙ sym (room-enough t b room q) in
     change-part (refusal t b room q) (work q b) t (n * 3) rows there
     (λ g. omega (arith, k, length-orders (work q b .orders), given-few t b (least room) q (sym (room-enough t b room q) ∙ g)))
