@@ -88,6 +88,13 @@ filled-few q h t room rows = go (refusal t (bookIn h t) room q) refl
     go (some r) e = omega arith
     go none e = given-few t (bookIn h t) (least room) q (sym (room-enough t (bookIn h t) room q) ∙ e)
 
+-- the rows that were given stand in 1155 numbers, and there is a record for each
+pub filled-counts : (q : Request) (h : Head) (t : Tables) (room : ℕ) (rows : List ℕ) {c : Changed} {u : Tables} {ys : List ℕ} {n : ℕ} → changing c u ys ≡ filled q h t room rows → n ≡ countOf c → length ys ≡ 1155
+    → (n * 3 ≤ length ys) × (n ≤ room)
+filled-counts q h t room rows {n = n} e k l =
+    let few : n ≤ least room = rw (k ∙ ap (λ (z : Change). countOf (z .answer)) e) (filled-few q h t room rows) in
+    (omega (arith, l, few, least-fits room .1), omega (arith, few, least-fits room .0))
+
 -- ---- the request that was asked
 
 pub call-by : (h : Head) (t : Tables) (list : List ℕ) {asks given : Asked} {made : Change} → asks ≡ given → made ≡ change (asked given) h t list → made ≡ change (asked asks) h t list

@@ -5,7 +5,7 @@ use mathlib.Core.List.{List, [], _∷_, _++_, append-assoc}
 use native.Mathlib.Nat.{add-zero}
 use native.Mathlib.Numerals.{add-one}
 use native.Mathlib.Omega.{arith}
-use lib.ListN.{length, take, drop, getD, set, length-append, length-drop}
+use lib.ListN.{length, take, drop, getD, set, replicate, length-append, length-drop, length-replicate}
 use lib.Seq.{take-all, take-suc, getD-take, getD-drop, drop-cons, set-at, append-snoc}
 use Rattle.rows.specs.Number.{stored, rowsOf}
 use Rattle.rows.proofs.Table.{length-rows, row-at, rows-front, rows-laid}
@@ -66,3 +66,16 @@ row-back x = refl
 pub orders-back : (os : List Order) (rows : List ℕ) → ordersIn (length os) (stored 0 (orderRows os) rows) ≡ os
 unfolding ordersIn orderRows
 orders-back os rows = rows-laid 3 orderRow orderOf os rows (λ x m. (row-wide x, row-back x))
+
+-- ---- the numbers at first; shut, since they are many
+
+unfoldable pub zeros : List ℕ
+zeros = replicate 1155 0
+
+pub zeros-are : replicate 1155 0 ≡ zeros
+unfolding zeros
+zeros-are = refl
+
+pub zeros-length : length zeros ≡ 1155
+unfolding zeros
+zeros-length = length-replicate {A = ℕ} 1155 0
