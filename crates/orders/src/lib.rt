@@ -33,7 +33,7 @@ fn store(records: &mut [Order], at: usize, kind: u16, a: u16, b: u16)
     requires { ⌜ at < length (now records) ⌝ }
     ensures { λ _. ⌜ now (records .exit) ≡ set (now (records .entry)) at (record { kind = kind; a = a; b = b }) ⌝ }
 {
-    records[at] = Order { kind: kind, a: a, b: b };
+    records[at] = Order { kind, a, b };
 }
 
 // Row i of the numbers.

@@ -1,4 +1,4 @@
--- `change` meets its contract: a walk of its MIR, written by tools/walk.py. The array of numbers is lent to `fill` as a `&mut` slice, comes back, and is lent to
+-- `change` meets its contract: a walk of its MIR, whose steps are written by crates/orders/tools/walk.py. The array of numbers is lent to `fill` as a `&mut` slice, comes back, and is lent to
 -- `store_rows` as a `&` slice; the tables and the records are given up to these two calls.
 -- Assumes nothing.
 use mathlib.Core.Path.{_≡_, refl, sym, _∙_, ap, subst}
@@ -193,34 +193,24 @@ module _ {M : Type 1} (𝓤 : URA M) (H : Heap 𝓤) (A : Atoms 𝓤) (W : Given
 
   goes-fill : (m ν : ℕ) (δ : GName) → ent 𝓤 (⋆ 𝓤 H A (Fill-items m ν δ)) (⋆ 𝓤 H A (raw (Fill 𝓤 H A mem run .pre (to-fill m ν δ)) ∷ []))
   goes-fill m ν δ =
-      qed W (Fill-items m ν δ) ∵ says ! (omega (arith, zeros-length)) $ nothing ! $
-      move ! (6 ∷ 0 ∷ []) $
-      join ! $
-      move ! (5 ∷ 0 ∷ []) $
-      join ! $
-      move ! (4 ∷ 0 ∷ []) $
-      join ! $
-      move ! (3 ∷ 0 ∷ []) $
-      join ! $
-      move ! (2 ∷ 0 ∷ []) $
-      join ! $
-      move ! (1 ∷ 0 ∷ []) $
-      join ! $
+      qed W (Fill-items m ν δ) ∵
+      -- steps: goes-fill
+      says ! (omega (arith, zeros-length)) $ nothing ! $
+      move ! (6 ∷ 0 ∷ []) $ join ! $
+      move ! (5 ∷ 0 ∷ []) $ join ! $
+      move ! (4 ∷ 0 ∷ []) $ join ! $
+      move ! (3 ∷ 0 ∷ []) $ join ! $
+      move ! (2 ∷ 0 ∷ []) $ join ! $
+      move ! (1 ∷ 0 ∷ []) $ join ! $
       frame ! $ nothing ! $
       owned ! usize (Is usize) (uint-makes 𝓤 H A W w64) (length (list .now)) _ (refl, room-list .0) $ fjoin ! $
-      move ! (6 ∷ 0 ∷ []) $
-      fjoin ! $
+      move ! (6 ∷ 0 ∷ []) $ fjoin ! $
       owned ! TR.the-row (Is TR.the-row) (EL.makes TR.the-type TR′.the-plain 𝓤 H A) x _ x-is $ fjoin ! $
-      move ! (5 ∷ 0 ∷ []) $
-      fjoin ! $
-      move ! (4 ∷ 0 ∷ []) $
-      fjoin ! $
-      move ! (3 ∷ 0 ∷ []) $
-      fjoin ! $
-      move ! (2 ∷ 0 ∷ []) $
-      fjoin ! $
-      move ! (1 ∷ 0 ∷ []) $
-      fjoin ! $
+      move ! (5 ∷ 0 ∷ []) $ fjoin ! $
+      move ! (4 ∷ 0 ∷ []) $ fjoin ! $
+      move ! (3 ∷ 0 ∷ []) $ fjoin ! $
+      move ! (2 ∷ 0 ∷ []) $ fjoin ! $
+      move ! (1 ∷ 0 ∷ []) $ fjoin ! $
       owned ! TH.the-row (Is TH.the-row) (LL.makes TH.the-type TH′.the-plain 𝓤 H A) h _ h-is $ fjoin ! $ done !
 
   -- `count_of`
@@ -253,33 +243,22 @@ module _ {M : Type 1} (𝓤 : URA M) (H : Heap 𝓤) (A : Atoms 𝓤) (W : Given
   exits c w u zs eq len-iv len-it len-ov len-ot len-rs len-list is =
       qed W (‵ (flft κ0 q0) ∷ ‵ (flft κ1 q1) ∷ ‵ (flft κ2 q2) ∷ ‵ (flft κ3 q3) ∷ ‵ (flft κ4 q4) ∷ ‵ (flft κ5 q5) ∷ ‵ (finally u8 (iv .name) (u .innerVertices)) ∷ ‵ (finally u8 (it .name) (u .innerTokens)) ∷ ‵ (finally u8 (ov .name) (u .outerVertices)) ∷ ‵ (finally u8 (ot .name) (u .outerTokens)) ∷ ‵ (finally u8 (rs .name) (u .resources)) ∷ ‵ (finally T.the-row (list .name) zs) ∷ []) ∵
       suffices ! _ (ends-at 𝓤 H A self.ended stayed (self.clauses 𝓤 H A mem run) W (((κ0, (κ1, (κ2, (κ3, (κ4, (κ5, tt)))))), (q0, (q1, (q2, (q3, (q4, (q5, tt)))))), tt, arg, vals), tt) w c (tt, (u .innerVertices, (u .innerTokens, (u .outerVertices, (u .outerTokens, (u .resources, (tt, (zs, tt)))))))) (tt, (len-iv, (len-it, (len-ov, (len-ot, (len-rs, (tt, (len-list, tt))))))))) $
+      -- steps: exits
       says ! eq $ nothing ! $
-      move ! (6 ∷ 0 ∷ []) $
-      join ! $
-      move ! (5 ∷ 0 ∷ []) $
-      join ! $
-      move ! (4 ∷ 0 ∷ []) $
-      join ! $
-      move ! (3 ∷ 0 ∷ []) $
-      join ! $
-      move ! (2 ∷ 0 ∷ []) $
-      join ! $
-      move ! (1 ∷ 0 ∷ []) $
-      join ! $
+      move ! (6 ∷ 0 ∷ []) $ join ! $
+      move ! (5 ∷ 0 ∷ []) $ join ! $
+      move ! (4 ∷ 0 ∷ []) $ join ! $
+      move ! (3 ∷ 0 ∷ []) $ join ! $
+      move ! (2 ∷ 0 ∷ []) $ join ! $
+      move ! (1 ∷ 0 ∷ []) $ join ! $
       frame ! $ nothing ! $
-      move ! (6 ∷ 0 ∷ []) $
-      fjoin ! $
+      move ! (6 ∷ 0 ∷ []) $ fjoin ! $
       owned ! TR.the-row (Is TR.the-row) (EL.makes TR.the-type TR′.the-plain 𝓤 H A) x _ x-is $ fjoin ! $
-      move ! (5 ∷ 0 ∷ []) $
-      fjoin ! $
-      move ! (4 ∷ 0 ∷ []) $
-      fjoin ! $
-      move ! (3 ∷ 0 ∷ []) $
-      fjoin ! $
-      move ! (2 ∷ 0 ∷ []) $
-      fjoin ! $
-      move ! (1 ∷ 0 ∷ []) $
-      fjoin ! $
+      move ! (5 ∷ 0 ∷ []) $ fjoin ! $
+      move ! (4 ∷ 0 ∷ []) $ fjoin ! $
+      move ! (3 ∷ 0 ∷ []) $ fjoin ! $
+      move ! (2 ∷ 0 ∷ []) $ fjoin ! $
+      move ! (1 ∷ 0 ∷ []) $ fjoin ! $
       owned ! TH.the-row (Is TH.the-row) (LL.makes TH.the-type TH′.the-plain 𝓤 H A) h _ h-is $ fjoin ! $
       owned ! TC.the-row (Is TC.the-row) (EL.makes TC.the-type TC′.the-plain 𝓤 H A) c _ is $ move ! (1 ∷ 0 ∷ []) $ done !
 
@@ -289,7 +268,11 @@ module _ {M : Type 1} (𝓤 : URA M) (H : Heap 𝓤) (A : Atoms 𝓤) (W : Given
         let h-typed = LL.lawful TH.the-type TH′.the-laws 𝓤 H A W .typed h _ h-is .0 in
         let x-typed = EL.lawful TR.the-type TR′.the-laws 𝓤 H A W tt .typed x _ x-is .0 in
         qed W ((‵ (flft κ0 q0) ⊛ ‵ (flft κ1 q1) ⊛ ‵ (flft κ2 q2) ⊛ ‵ (flft κ3 q3) ⊛ ‵ (flft κ4 q4) ⊛ ‵ (flft κ5 q5) ⊛ ‵ ftrue) ∷ ‵ (owns (TH.the-row ∷ MutSlice (named 0) κ0 u8 ∷ MutSlice (named 1) κ1 u8 ∷ MutSlice (named 2) κ2 u8 ∷ MutSlice (named 3) κ3 u8 ∷ MutSlice (named 4) κ4 u8 ∷ TR.the-row ∷ MutSlice (named 5) κ5 T.the-row ∷ []) arg vals) ∷ []) ∵ enter ! C Λ code.function (hv ∷ s-iv ∷ s-it ∷ s-ov ∷ s-ot ∷ s-rs ∷ xv ∷ s-list ∷ []) _ $
-        alloc1 ! (λ l₀. alloc1 ! (λ l₁. alloc1 ! (λ l₂. alloc1 ! (λ l₃. alloc1 ! (λ l₄. alloc1 ! (λ l₅. alloc1 ! (λ l₆. alloc1 ! (λ l₇. alloc1 ! (λ l₈. alloc1 ! (λ l₉. alloc1 ! (λ l₁₀. alloc1 ! (λ l₁₁. alloc1 ! (λ l₁₂. alloc1 ! (λ l₁₃. alloc1 ! (λ l₁₄. alloc1 ! (λ l₁₅. alloc1 ! (λ l₁₆. alloc1 ! (λ l₁₇. alloc1 ! (λ l₁₈. alloc1 ! (λ l₁₉. alloc1 ! (λ l₂₀. alloc1 ! (λ l₂₁. alloc1 ! (λ l₂₂. alloc1 ! (λ l₂₃. alloc1 ! (λ l₂₄. alloc1 ! (λ l₂₅. alloc1 ! (λ l₂₆. alloc1 ! (λ l₂₇. alloc1 ! (λ l₂₈. alloc1 ! (λ l₂₉. alloc0 ! $ params1 ! $
+        -- steps: walk
+        alloc1 ! (λ l₀. alloc1 ! (λ l₁. alloc1 ! (λ l₂. alloc1 ! (λ l₃. alloc1 ! (λ l₄. alloc1 ! (λ l₅. alloc1 ! (λ l₆. alloc1 ! (λ l₇. alloc1 ! (λ l₈. alloc1 ! (λ l₉.
+        alloc1 ! (λ l₁₀. alloc1 ! (λ l₁₁. alloc1 ! (λ l₁₂. alloc1 ! (λ l₁₃. alloc1 ! (λ l₁₄. alloc1 ! (λ l₁₅. alloc1 ! (λ l₁₆. alloc1 ! (λ l₁₇. alloc1 ! (λ l₁₈. alloc1 ! (λ l₁₉.
+        alloc1 ! (λ l₂₀. alloc1 ! (λ l₂₁. alloc1 ! (λ l₂₂. alloc1 ! (λ l₂₃. alloc1 ! (λ l₂₄. alloc1 ! (λ l₂₅. alloc1 ! (λ l₂₆. alloc1 ! (λ l₂₇. alloc1 ! (λ l₂₈. alloc1 ! (λ l₂₉.
+        alloc0 ! $ params1 ! $
         pass1 ! (init ! 56 refl h-typed) $
         pass1 ! (init ! 54 refl (tt, (tt, (record { fits = room-iv .0 }, tt)))) $
         pass1 ! (init ! 52 refl (tt, (tt, (record { fits = room-it .0 }, tt)))) $
@@ -303,8 +286,7 @@ module _ {M : Type 1} (𝓤 : URA M) (H : Heap 𝓤) (A : Atoms 𝓤) (W : Given
         use1 W (‵ (Rows .own (replicate 1155 0) (none ∷ []))) (array-repeat 𝓤 H A W u16 (uint-copy 𝓤 H A W w16) 1155 0 (vint w16 0)) $
         peeks ! Rows (Is Rows) (shows 𝓤 H A Rows) (replicate 1155 0) (none ∷ []) (λ is₀.
         assigns ! (rep ! 1155 (lit ! tt)) (from ! (stop !)) (init ! 41 refl (array-lawful 𝓤 H A W u16 (uint-lawful 𝓤 H A W w16) 1155 .typed (replicate 1155 0) (none ∷ []) is₀ .0)) $
-        move ! (41 ∷ 0 ∷ []) $
-        use2 W (‵ (partAt Rows fullShare (replicate 1155 0) l₉ 0)) (part-in 𝓤 H A W Rows refl fullShare (replicate 1155 0) l₉ 0 none) $
+        move ! (41 ∷ 0 ∷ []) $ use2 W (‵ (partAt Rows fullShare (replicate 1155 0) l₉ 0)) (part-in 𝓤 H A W Rows refl fullShare (replicate 1155 0) l₉ 0 none) $
         rewrite ! 0 (λ (ys : List ℕ). ‵ (partAt Rows fullShare ys l₉ 0)) zeros-are refl $
         assigns ! (addr ! (from ! (fld ! refl (hop ! (look-in ! 54 (sub ! 0 refl (whole !))) (stop !))))) (from ! (stop !)) (init ! 35 refl (tt, tt)) $
         assigns ! (agg ! (and-then ! (load ! (from ! (stop !)) (look ! 35 refl)) (and-then ! (load ! (from ! (fld ! refl (stop !))) (look-in ! 54 (sub ! 1 refl (whole !)))) (no-more !)))) (from ! (stop !)) (init ! 33 refl (tt, (tt, (record { fits = room-iv .0 }, tt)))) $
@@ -320,124 +302,77 @@ module _ {M : Type 1} (𝓤 : URA M) (H : Heap 𝓤) (A : Atoms 𝓤) (W : Given
         assigns ! (agg ! (and-then ! (load ! (from ! (stop !)) (look ! 15 refl)) (and-then ! (big-lit ! (record { fits = lit< tt })) (no-more !)))) (from ! (stop !)) (init ! 13 refl (tt, (tt, (record { fits = lit< tt }, tt)))) $
         assigns ! (of-opd ! (load ! (from ! (fld ! refl (stop !))) (look-in ! 42 (sub ! 1 refl (whole !))))) (from ! (stop !)) (init ! 11 refl (tt, record { fits = room-list .0 })) $
         -- it is lent, for a lifetime ν of the call
-        move ! (0 ∷ []) $
-        use1 W (‵ (arr-parts (shares u16) 1155 .part fullShare zeros l₉ 0)) (array-apart 𝓤 H A W u16 fullShare tt 1155 zeros l₉ 0) $ fsplit ! $ drop ! $
+        move ! (0 ∷ []) $ use1 W (‵ (arr-parts (shares u16) 1155 .part fullShare zeros l₉ 0)) (array-apart 𝓤 H A W u16 fullShare tt 1155 zeros l₉ 0) $ fsplit ! $ drop ! $
         use1 W (‵ (cells (inMem u16) zeros l₉ 0)) (whole-in 𝓤 H A W u16 zeros l₉ 0) $
         lft-new ! tt (λ ν.
-        move ! (1 ∷ []) $
-        use1 W (later (some (λ (γ₁ : GName). ‵ (Rows-mut l₉ ν γ₁ (length zeros)) ⊛ ‵ (flent (ν ∷ []) (Held u16 (length zeros) l₉ 0 γ₁))))) (lends-slice 𝓤 H A W u16 (named 5) (ν ∷ []) zeros l₉ 0 (subst (Room u16) (sym zeros-length) (lit< tt, lit< tt))) $
+        move ! (1 ∷ []) $ use1 W (later (some (λ (γ₁ : GName). ‵ (Rows-mut l₉ ν γ₁ (length zeros)) ⊛ ‵ (flent (ν ∷ []) (Held u16 (length zeros) l₉ 0 γ₁))))) (lends-slice 𝓤 H A W u16 (named 5) (ν ∷ []) zeros l₉ 0 (subst (Room u16) (sym zeros-length) (lit< tt, lit< tt))) $
         await ! tt $ pick ! (λ γ₁. split ! $
         rewrite ! 0 (λ (m : ℕ). ‵ (Rows-mut l₉ ν γ₁ m)) zeros-length refl $
         rewrite ! 1 (λ (m : ℕ). ‵ (flent (ν ∷ []) (Held u16 m l₉ 0 γ₁))) zeros-length refl $
-        move ! (63 ∷ []) $
-        fsplit ! $
-        move ! (1 ∷ []) $
-        fsplit ! $
-        move ! (1 ∷ []) $
-        fsplit ! $
-        move ! (1 ∷ []) $
-        fsplit ! $
-        move ! (1 ∷ []) $
-        fsplit ! $
-        move ! (1 ∷ []) $
-        fsplit ! $
-        move ! (1 ∷ []) $
-        fsplit ! $
-        move ! (1 ∷ []) $
-        fsplit ! $
-        move ! (1 ∷ []) $
-        move ! (71 ∷ []) $
-        split ! $
-        move ! (1 ∷ []) $
-        split ! $
-        move ! (1 ∷ []) $
-        split ! $
-        move ! (1 ∷ []) $
-        split ! $
-        move ! (1 ∷ []) $
-        split ! $
-        move ! (1 ∷ []) $
-        split ! $
-        move ! (1 ∷ []) $
-        move ! (6 ∷ 5 ∷ 4 ∷ 3 ∷ 2 ∷ 18 ∷ 14 ∷ 13 ∷ 12 ∷ 11 ∷ 10 ∷ 16 ∷ []) $
-        cut (Fill-items l₉ ν γ₁) (raw (Fill 𝓤 H A mem run .pre (to-fill l₉ ν γ₁)) ∷ []) _ (goes-fill l₉ ν γ₁) $
+        move ! (63 ∷ []) $ fsplit ! $
+        move ! (1 ∷ []) $ fsplit ! $
+        move ! (1 ∷ []) $ fsplit ! $
+        move ! (1 ∷ []) $ fsplit ! $
+        move ! (1 ∷ []) $ fsplit ! $
+        move ! (1 ∷ []) $ fsplit ! $
+        move ! (1 ∷ []) $ fsplit ! $
+        move ! (1 ∷ []) $ fsplit ! $
+        move ! (1 ∷ []) $ move ! (71 ∷ []) $ split ! $
+        move ! (1 ∷ []) $ split ! $
+        move ! (1 ∷ []) $ split ! $
+        move ! (1 ∷ []) $ split ! $
+        move ! (1 ∷ []) $ split ! $
+        move ! (1 ∷ []) $ split ! $
+        move ! (1 ∷ []) $ move ! (6 ∷ 5 ∷ 4 ∷ 3 ∷ 2 ∷ 18 ∷ 14 ∷ 13 ∷ 12 ∷ 11 ∷ 10 ∷ 16 ∷ []) $ cut (Fill-items l₉ ν γ₁) (raw (Fill 𝓤 H A mem run .pre (to-fill l₉ ν γ₁)) ∷ []) _ (goes-fill l₉ ν γ₁) $
         calls-at ! fm (Fill 𝓤 H A mem run) known-fill (to-fill l₉ ν γ₁) (and-then ! (load ! (from ! (stop !)) (look ! 63 refl)) (and-then ! (load ! (from ! (stop !)) (look ! 40 refl)) (and-then ! (load ! (from ! (stop !)) (look ! 36 refl)) (and-then ! (load ! (from ! (stop !)) (look ! 32 refl)) (and-then ! (load ! (from ! (stop !)) (look ! 28 refl)) (and-then ! (load ! (from ! (stop !)) (look ! 24 refl)) (and-then ! (load ! (from ! (stop !)) (look ! 51 refl)) (and-then ! (load ! (from ! (stop !)) (look ! 20 refl)) (and-then ! (load ! (from ! (stop !)) (look ! 18 refl)) (no-more !)))))))))) (λ w.
         use1 W (later (some (λ (c : Changed). ((‵ (flft κ0 q0) ⊛ ‵ (flft κ1 q1) ⊛ ‵ (flft κ2 q2) ⊛ ‵ (flft κ3 q3) ⊛ ‵ (flft κ4 q4) ⊛ ‵ (flft (ν ∷ []) fullShare) ⊛ ‵ ftrue) ⊛ ‵ (TC.the-row .own c (w ∷ []))) ⊛ raw (ensured 𝓤 H A fill.ended (fill.clauses 𝓤 H A mem run) (fill-κs ν) (fill-a l₉ γ₁) tt c)))) (id⊢ 𝓤 _) $ await ! tt $ pick ! (λ c.
         split ! $
-        move ! (1 ∷ []) $
-        use1 W (some (λ (zs : Fill-lasts). ‵ (lasts fill.ended (fill-κs ν) (fill-a l₉ γ₁) zs) ⊛ raw (fact 𝓤 (Filled c zs)))) (id⊢ 𝓤 _) $ pick ! (λ zs.
+        move ! (1 ∷ []) $ use1 W (some (λ (zs : Fill-lasts). ‵ (lasts fill.ended (fill-κs ν) (fill-a l₉ γ₁) zs) ⊛ raw (fact 𝓤 (Filled c zs)))) (id⊢ 𝓤 _) $ pick ! (λ zs.
         split ! $
-        move ! (1 ∷ []) $
-        heard ! (Filled c zs) (λ e.
+        move ! (1 ∷ []) $ heard ! (Filled c zs) (λ e.
         fsplit ! $
-        move ! (1 ∷ []) $
+        move ! (1 ∷ []) $ fsplit ! $
         fsplit ! $
+        move ! (1 ∷ []) $ feqL ! (λ len-iv.
+        move ! (1 ∷ []) $ fsplit ! $
         fsplit ! $
-        move ! (1 ∷ []) $
-        feqL ! (λ len-iv.
-        move ! (1 ∷ []) $
+        move ! (1 ∷ []) $ feqL ! (λ len-it.
+        move ! (1 ∷ []) $ fsplit ! $
         fsplit ! $
+        move ! (1 ∷ []) $ feqL ! (λ len-ov.
+        move ! (1 ∷ []) $ fsplit ! $
         fsplit ! $
-        move ! (1 ∷ []) $
-        feqL ! (λ len-it.
-        move ! (1 ∷ []) $
+        move ! (1 ∷ []) $ feqL ! (λ len-ot.
+        move ! (1 ∷ []) $ fsplit ! $
         fsplit ! $
+        move ! (1 ∷ []) $ feqL ! (λ len-rs.
+        move ! (1 ∷ []) $ fsplit ! $
+        move ! (1 ∷ []) $ fsplit ! $
         fsplit ! $
-        move ! (1 ∷ []) $
-        feqL ! (λ len-ov.
-        move ! (1 ∷ []) $
-        fsplit ! $
-        fsplit ! $
-        move ! (1 ∷ []) $
-        feqL ! (λ len-ot.
-        move ! (1 ∷ []) $
-        fsplit ! $
-        fsplit ! $
-        move ! (1 ∷ []) $
-        feqL ! (λ len-rs.
-        move ! (1 ∷ []) $
-        fsplit ! $
-        move ! (1 ∷ []) $
-        fsplit ! $
-        fsplit ! $
-        move ! (1 ∷ []) $
-        feqL ! (λ len-rows.
+        move ! (1 ∷ []) $ feqL ! (λ len-rows.
         let len-r : length (rows zs) ≡ 1155 = len-rows ∙ zeros-length in
-        move ! (9 ∷ []) $
-        split ! $
-        move ! (1 ∷ []) $
-        peeks ! TC.the-row (Is TC.the-row) (shows 𝓤 H A TC.the-row) c (w ∷ []) (λ is.
+        move ! (9 ∷ []) $ split ! $
+        move ! (1 ∷ []) $ peeks ! TC.the-row (Is TC.the-row) (shows 𝓤 H A TC.the-row) c (w ∷ []) (λ is.
         land ! (from ! (stop !)) (init ! 56 refl (EL.lawful TC.the-type TC′.the-laws 𝓤 H A W tt .typed c _ is .0)) $
         -- the count
         use1 W (raw (Count 𝓤 H A mem run .pre (to-count c w))) (goes-count c w) $
         calls-at ! fm (Count 𝓤 H A mem run) known-count (to-count c w) (and-then ! (load ! (from ! (stop !)) (look ! 56 refl)) (no-more !)) (λ w₁.
         use1 W (later (some (λ (n : ℕ). (‵ ftrue ⊛ ‵ (usize .own n (w₁ ∷ []))) ⊛ raw (ensured 𝓤 H A count.ended (count.clauses 𝓤 H A mem run) tt (c, tt) tt n)))) (id⊢ 𝓤 _) $ await ! tt $ pick ! (λ n.
         split ! $
-        move ! (1 ∷ []) $
-        use1 W (raw (fact 𝓤 (n ≡ countOf c))) (count-said c n) $ heard ! (n ≡ countOf c) (λ e₁.
+        move ! (1 ∷ []) $ use1 W (raw (fact 𝓤 (n ≡ countOf c))) (count-said c n) $ heard ! (n ≡ countOf c) (λ e₁.
         split ! $
-        move ! (1 ∷ []) $
-        peeks ! usize (Is usize) (shows 𝓤 H A usize) n (w₁ ∷ []) (λ is₁.
+        move ! (1 ∷ []) $ peeks ! usize (Is usize) (shows 𝓤 H A usize) n (w₁ ∷ []) (λ is₁.
         land ! (from ! (stop !)) (init ! 55 refl (uint-lawful 𝓤 H A W w64 .typed n _ is₁ .0)) $
         rewrite ! 55 (λ (v : Val). ‵ (fat fullShare (tyInt w64) l₁₁ 0 v)) (ap only (is₁ .0)) refl $
         -- the lifetime is ended, and the array comes back
-        move ! (2 ∷ []) $
-        split ! $
-        move ! (1 ∷ []) $
-        split ! $
-        move ! (1 ∷ []) $
-        split ! $
-        move ! (1 ∷ []) $
-        split ! $
-        move ! (1 ∷ []) $
-        split ! $
-        move ! (1 ∷ []) $
-        split ! $
-        move ! (1 ∷ []) $
-        move ! (1 ∷ []) $
-        lft-end ! tt $
-        move ! (0 ∷ 24 ∷ 9 ∷ []) $
-        use3 W (later (‵ (Arr (inMem u16) 1155 .lies (rows zs) l₉ 0))) (slice-back 𝓤 H A W u16 (ν ∷ []) γ₁ (rows zs) 1155 l₉ 0) $ await ! tt $ fsplit ! $ drop ! $
+        move ! (2 ∷ []) $ split ! $
+        move ! (1 ∷ []) $ split ! $
+        move ! (1 ∷ []) $ split ! $
+        move ! (1 ∷ []) $ split ! $
+        move ! (1 ∷ []) $ split ! $
+        move ! (1 ∷ []) $ split ! $
+        move ! (1 ∷ []) $ move ! (1 ∷ []) $ lft-end ! tt $
+        move ! (0 ∷ 24 ∷ 9 ∷ []) $ use3 W (later (‵ (Arr (inMem u16) 1155 .lies (rows zs) l₉ 0))) (slice-back 𝓤 H A W u16 (ν ∷ []) γ₁ (rows zs) 1155 l₉ 0) $ await ! tt $ fsplit ! $ drop ! $
         use1 W (‵ (row u16 fullShare (rows zs) l₉ 0)) (whole-out 𝓤 H A W u16 (rows zs) l₉ 0) $ feqI ! ℕ (length (rows zs)) (length (rows zs)) refl $ fjoin ! $
         assigns ! (addr ! (from ! (fld ! refl (hop ! (look-in ! 64 (sub ! 0 refl (whole !))) (stop !))))) (from ! (stop !)) (init ! 29 refl (tt, tt)) $
         assigns ! (agg ! (and-then ! (load ! (from ! (stop !)) (look ! 29 refl)) (and-then ! (load ! (from ! (fld ! refl (stop !))) (look-in ! 64 (sub ! 1 refl (whole !)))) (no-more !)))) (from ! (stop !)) (init ! 27 refl (tt, (tt, (record { fits = room-list .0 }, tt)))) $
@@ -445,136 +380,66 @@ module _ {M : Type 1} (𝓤 : URA M) (H : Heap 𝓤) (A : Atoms 𝓤) (W : Given
         assigns ! (agg ! (and-then ! (load ! (from ! (stop !)) (look ! 25 refl)) (and-then ! (big-lit ! (record { fits = lit< tt })) (no-more !)))) (from ! (stop !)) (init ! 23 refl (tt, (tt, (record { fits = lit< tt }, tt)))) $
         -- it is lent as `&`, for a lifetime ν₂ of the last call
         lft-new ! tt (λ ν₂.
-        move ! (1 ∷ []) $
-        use1 W (later (some (λ (γ₂ : GName). ‵ (Rows-shr l₉ ν₂ γ₂ (rows zs) (length (rows zs))) ⊛ ‵ (flent (ν₂ ∷ []) (arr-parts (shares u16) (length (rows zs)) .part fullShare (rows zs) l₉ 0))))) (lends-shr-slice 𝓤 H A W u16 (named 1) (ν₂ ∷ []) fullShare (rows zs) l₉ 0 (subst (Room u16) (sym len-r) (lit< tt, lit< tt))) $
+        move ! (1 ∷ []) $ use1 W (later (some (λ (γ₂ : GName). ‵ (Rows-shr l₉ ν₂ γ₂ (rows zs) (length (rows zs))) ⊛ ‵ (flent (ν₂ ∷ []) (arr-parts (shares u16) (length (rows zs)) .part fullShare (rows zs) l₉ 0))))) (lends-shr-slice 𝓤 H A W u16 (named 1) (ν₂ ∷ []) fullShare (rows zs) l₉ 0 (subst (Room u16) (sym len-r) (lit< tt, lit< tt))) $
         await ! tt $ pick ! (λ γ₂. split ! $
         rewrite ! 0 (λ (m : ℕ). ‵ (Rows-shr l₉ ν₂ γ₂ (rows zs) m)) len-r refl $
-        move ! (20 ∷ 2 ∷ 22 ∷ 0 ∷ []) $
-        cut (Store-items l₉ ν₂ γ₂ (rows zs)) (raw (Store 𝓤 H A mem run .pre (to-store l₉ ν₂ γ₂ (rows zs) n)) ∷ []) _ (goes-store l₉ ν₂ γ₂ (rows zs) n (is₁ .1) (filled-counts (asked x) h tbl (length (list .now)) zeros e e₁ len-r)) $
+        move ! (20 ∷ 2 ∷ 22 ∷ 0 ∷ []) $ cut (Store-items l₉ ν₂ γ₂ (rows zs)) (raw (Store 𝓤 H A mem run .pre (to-store l₉ ν₂ γ₂ (rows zs) n)) ∷ []) _ (goes-store l₉ ν₂ γ₂ (rows zs) n (is₁ .1) (filled-counts (asked x) h tbl (length (list .now)) zeros e e₁ len-r)) $
         calls-at ! fm (Store 𝓤 H A mem run) known-store (to-store l₉ ν₂ γ₂ (rows zs) n) (and-then ! (load ! (from ! (stop !)) (look ! 26 refl)) (and-then ! (load ! (from ! (stop !)) (look ! 22 refl)) (and-then ! (load ! (from ! (stop !)) (look ! 58 refl)) (no-more !)))) (λ w₂.
         use1 W (later (some (λ (u : Unit {0}). ((‵ (flft κ5 q5) ⊛ ‵ (flft (ν₂ ∷ []) fullShare) ⊛ ‵ ftrue) ⊛ ‵ (unit .own u (w₂ ∷ []))) ⊛ raw (ensured 𝓤 H A store.ended (store.clauses 𝓤 H A mem run) (κ5, (ν₂ ∷ [], tt)) (list, (at-rows l₉ γ₂ (rows zs), (n, tt))) tt u)))) (id⊢ 𝓤 _) $ await ! tt $ pick ! (λ u.
         split ! $
-        move ! (1 ∷ []) $
-        use1 W (some (λ (ls : Store-lasts). ‵ (lasts store.ended (κ5, (ν₂ ∷ [], tt)) (list, (at-rows l₉ γ₂ (rows zs), (n, tt))) ls) ⊛ raw (fact 𝓤 (ls .0 ≡ over (ordersIn n (rows zs)) (list .now))))) (id⊢ 𝓤 _) $ pick ! (λ ls.
+        move ! (1 ∷ []) $ use1 W (some (λ (ls : Store-lasts). ‵ (lasts store.ended (κ5, (ν₂ ∷ [], tt)) (list, (at-rows l₉ γ₂ (rows zs), (n, tt))) ls) ⊛ raw (fact 𝓤 (ls .0 ≡ over (ordersIn n (rows zs)) (list .now))))) (id⊢ 𝓤 _) $ pick ! (λ ls.
         split ! $
-        move ! (1 ∷ []) $
-        heard ! (ls .0 ≡ over (ordersIn n (rows zs)) (list .now)) (λ e₂.
+        move ! (1 ∷ []) $ heard ! (ls .0 ≡ over (ordersIn n (rows zs)) (list .now)) (λ e₂.
         fsplit ! $
         fsplit ! $
-        move ! (1 ∷ []) $
-        feqL ! (λ len-list.
-        move ! (2 ∷ []) $
-        split ! $
-        move ! (1 ∷ []) $
-        feqL ! (λ is₂.
+        move ! (1 ∷ []) $ feqL ! (λ len-list.
+        move ! (2 ∷ []) $ split ! $
+        move ! (1 ∷ []) $ feqL ! (λ is₂.
         land ! (from ! (stop !)) (init ! 32 refl (subst (λ (v : Val). Holds (hasTy tyUnit v) × WT v) (sym (ap only is₂)) (tt, tt))) $
-        move ! (0 ∷ []) $
-        split ! $
-        move ! (1 ∷ []) $
-        split ! $
-        move ! (1 ∷ []) $
-        move ! (1 ∷ []) $
-        lft-end ! tt $
-        move ! (0 ∷ 5 ∷ []) $
-        lent-back ! tt $
+        move ! (0 ∷ []) $ split ! $
+        move ! (1 ∷ []) $ split ! $
+        move ! (1 ∷ []) $ move ! (1 ∷ []) $ lft-end ! tt $
+        move ! (0 ∷ 5 ∷ []) $ lent-back ! tt $
         rewrite ! 0 (λ (m : ℕ). ‵ (arr-parts (shares u16) m .part fullShare (rows zs) l₉ 0)) len-r refl $
         use1 W (‵ (partAt Rows fullShare (rows zs) l₉ 0)) (array-whole 𝓤 H A W u16 fullShare 1155 (rows zs) l₉ 0) $
         use1 W (some (λ (v : Val). ‵ (fat fullShare (tyArray (tyInt w16) 1155) l₉ 0 v) ⊛ ‵ (Rows .own (rows zs) (v ∷ [])))) (part-out 𝓤 H A W Rows refl fullShare (rows zs) l₉ 0) $ pick ! (λ v. split ! $
-        move ! (1 ∷ []) $
-        drop ! $
+        move ! (1 ∷ []) $ drop ! $
         -- the answer
         assigns ! (of-opd ! (load ! (from ! (stop !)) (look ! 63 refl))) (from ! (stop !)) (init ! 82 refl (EL.lawful TC.the-type TC′.the-laws 𝓤 H A W tt .typed c _ is .0)) $
         returns ! (look ! 82 refl) $
-        forget ! 82 refl $
-        forget ! 80 refl $
-        forget ! 78 refl $
-        forget ! 76 refl $
-        forget ! 74 refl $
-        forget ! 72 refl $
-        forget ! 70 refl $
-        forget ! 68 refl $
-        forget ! 66 refl $
-        forget ! 0 refl $
-        forget ! 63 refl $
-        forget ! 61 refl $
-        forget ! 59 refl $
-        forget ! 57 refl $
-        forget ! 55 refl $
-        forget ! 53 refl $
-        forget ! 51 refl $
-        forget ! 49 refl $
-        forget ! 47 refl $
-        forget ! 45 refl $
-        forget ! 43 refl $
-        forget ! 41 refl $
-        forget ! 39 refl $
-        forget ! 37 refl $
-        forget ! 35 refl $
-        forget ! 33 refl $
-        forget ! 31 refl $
-        forget ! 29 refl $
-        forget ! 27 refl $
-        forget ! 25 refl $
-        move ! (82 ∷ 83 ∷ []) $
-        free1 ! $
-        move ! (80 ∷ 81 ∷ []) $
-        free1 ! $
-        move ! (78 ∷ 79 ∷ []) $
-        free1 ! $
-        move ! (76 ∷ 77 ∷ []) $
-        free1 ! $
-        move ! (74 ∷ 75 ∷ []) $
-        free1 ! $
-        move ! (72 ∷ 73 ∷ []) $
-        free1 ! $
-        move ! (70 ∷ 71 ∷ []) $
-        free1 ! $
-        move ! (68 ∷ 69 ∷ []) $
-        free1 ! $
-        move ! (66 ∷ 67 ∷ []) $
-        free1 ! $
-        move ! (0 ∷ 65 ∷ []) $
-        free1 ! $
-        move ! (62 ∷ 63 ∷ []) $
-        free1 ! $
-        move ! (60 ∷ 61 ∷ []) $
-        free1 ! $
-        move ! (58 ∷ 59 ∷ []) $
-        free1 ! $
-        move ! (56 ∷ 57 ∷ []) $
-        free1 ! $
-        move ! (54 ∷ 55 ∷ []) $
-        free1 ! $
-        move ! (52 ∷ 53 ∷ []) $
-        free1 ! $
-        move ! (50 ∷ 51 ∷ []) $
-        free1 ! $
-        move ! (48 ∷ 49 ∷ []) $
-        free1 ! $
-        move ! (46 ∷ 47 ∷ []) $
-        free1 ! $
-        move ! (44 ∷ 45 ∷ []) $
-        free1 ! $
-        move ! (42 ∷ 43 ∷ []) $
-        free1 ! $
-        move ! (40 ∷ 41 ∷ []) $
-        free1 ! $
-        move ! (38 ∷ 39 ∷ []) $
-        free1 ! $
-        move ! (36 ∷ 37 ∷ []) $
-        free1 ! $
-        move ! (34 ∷ 35 ∷ []) $
-        free1 ! $
-        move ! (32 ∷ 33 ∷ []) $
-        free1 ! $
-        move ! (30 ∷ 31 ∷ []) $
-        free1 ! $
-        move ! (28 ∷ 29 ∷ []) $
-        free1 ! $
-        move ! (26 ∷ 27 ∷ []) $
-        free1 ! $
-        move ! (24 ∷ 25 ∷ []) $
-        free1 ! $
+        forget ! 82 refl $ forget ! 80 refl $ forget ! 78 refl $ forget ! 76 refl $ forget ! 74 refl $ forget ! 72 refl $ forget ! 70 refl $ forget ! 68 refl $ forget ! 66 refl $ forget ! 0 refl $
+        forget ! 63 refl $ forget ! 61 refl $ forget ! 59 refl $ forget ! 57 refl $ forget ! 55 refl $ forget ! 53 refl $ forget ! 51 refl $ forget ! 49 refl $ forget ! 47 refl $ forget ! 45 refl $
+        forget ! 43 refl $ forget ! 41 refl $ forget ! 39 refl $ forget ! 37 refl $ forget ! 35 refl $ forget ! 33 refl $ forget ! 31 refl $ forget ! 29 refl $ forget ! 27 refl $ forget ! 25 refl $
+        move ! (82 ∷ 83 ∷ []) $ free1 ! $
+        move ! (80 ∷ 81 ∷ []) $ free1 ! $
+        move ! (78 ∷ 79 ∷ []) $ free1 ! $
+        move ! (76 ∷ 77 ∷ []) $ free1 ! $
+        move ! (74 ∷ 75 ∷ []) $ free1 ! $
+        move ! (72 ∷ 73 ∷ []) $ free1 ! $
+        move ! (70 ∷ 71 ∷ []) $ free1 ! $
+        move ! (68 ∷ 69 ∷ []) $ free1 ! $
+        move ! (66 ∷ 67 ∷ []) $ free1 ! $
+        move ! (0 ∷ 65 ∷ []) $ free1 ! $
+        move ! (62 ∷ 63 ∷ []) $ free1 ! $
+        move ! (60 ∷ 61 ∷ []) $ free1 ! $
+        move ! (58 ∷ 59 ∷ []) $ free1 ! $
+        move ! (56 ∷ 57 ∷ []) $ free1 ! $
+        move ! (54 ∷ 55 ∷ []) $ free1 ! $
+        move ! (52 ∷ 53 ∷ []) $ free1 ! $
+        move ! (50 ∷ 51 ∷ []) $ free1 ! $
+        move ! (48 ∷ 49 ∷ []) $ free1 ! $
+        move ! (46 ∷ 47 ∷ []) $ free1 ! $
+        move ! (44 ∷ 45 ∷ []) $ free1 ! $
+        move ! (42 ∷ 43 ∷ []) $ free1 ! $
+        move ! (40 ∷ 41 ∷ []) $ free1 ! $
+        move ! (38 ∷ 39 ∷ []) $ free1 ! $
+        move ! (36 ∷ 37 ∷ []) $ free1 ! $
+        move ! (34 ∷ 35 ∷ []) $ free1 ! $
+        move ! (32 ∷ 33 ∷ []) $ free1 ! $
+        move ! (30 ∷ 31 ∷ []) $ free1 ! $
+        move ! (28 ∷ 29 ∷ []) $ free1 ! $
+        move ! (26 ∷ 27 ∷ []) $ free1 ! $
+        move ! (24 ∷ 25 ∷ []) $ free1 ! $
         free0 ! $
         keep ! (9 ∷ 8 ∷ 7 ∷ 6 ∷ 5 ∷ 1 ∷ 18 ∷ 17 ∷ 16 ∷ 15 ∷ 14 ∷ 2 ∷ []) $
         by ! (exits c w (after zs) (ls .0) (recorded-by (asked x) h tbl zeros (list .now) e e₁ e₂) len-iv len-it len-ov len-ot len-rs len-list is))))))))))))))))))))))))))))))))))))))))))))))))))))))))))

@@ -107,7 +107,7 @@ module _ {M : Type 1} (𝓤 : URA M) (H : Heap 𝓤) (A : Atoms 𝓤) (W : Given
         pass1 ! (init ! 10 refl (tt, record { fits = k-fits })) $ pass1 ! (init ! 8 refl (tt, record { fits = y-fits })) $ pass1 ! (init ! 6 refl (tt, record { fits = z-fits })) $ pass0 ! $
         -- [_8; …; _7; …; _6; …; _5; …; _4; …; _3; …; _2; …; _1; …; room for _0; …; the token; what the parameters own]
         assigns ! (agg ! (and-then ! (load ! (from ! (stop !)) (look ! 10 refl)) (and-then ! (load ! (from ! (stop !)) (look ! 8 refl)) (and-then ! (load ! (from ! (stop !)) (look ! 6 refl)) (no-more !))))) (from ! (stop !))
-          (init ! 4 refl (tt, (record { fits = k-fits }, (record { fits = y-fits }, (record { fits = z-fits }, tt))))) $
+        (init ! 4 refl (tt, (record { fits = k-fits }, (record { fits = y-fits }, (record { fits = z-fits }, tt))))) $
         assigns ! (bin ! (load ! (from ! (stop !)) (look ! 12 refl)) (lit ! tt) (record { fits = six-fits })) (from ! (stop !)) (init ! 2 refl (tt, record { fits = six-fits })) $
         assigns ! (bin ! (load ! (from ! (fld ! refl (stop !))) (look-in ! 14 (sub ! 0 refl (whole !)))) (load ! (from ! (stop !)) (look ! 2 refl)) tt) (from ! (stop !)) (init ! 0 refl (tt, tt)) $
         rewrite ! 0 (λ (p : ℕ). ‵ (fat fullShare tyPtr l₈ 0 (vptr b p))) (sym (place-is 6 o n)) refl $
@@ -129,7 +129,7 @@ module _ {M : Type 1} (𝓤 : URA M) (H : Heap 𝓤) (A : Atoms 𝓤) (W : Given
       (λ κs. (slice-vals, (uint-vals w64, (uint-vals w16, (uint-vals w16, (uint-vals w16, tt)))))) (λ κs. (mut-slice-tells (named 0) (κs .0) T.the-row, (uint-tells w64, (uint-tells w16, (uint-tells w16, (uint-tells w16, tt))))))
       (λ κs qs bounds a g are. needs 𝓤 (a .1 .0 < length (a .0 .now)) _ (λ within.
       walk 𝓤 H A W mem run (κs .0) (qs .0) (a .0 .ptr .0) (a .0 .ptr .1) (a .0 .name) (a .0 .now) (a .1 .0) (a .1 .1 .0) (a .1 .1 .1 .0) (a .1 .1 .1 .1 .0)
-        (are .1 .0 .1) (are .1 .1 .0 .1) (are .1 .1 .1 .0 .1) (are .1 .1 .1 .1 .0 .1) C Λ (are .0 .0 .1) within))
+      (are .1 .0 .1) (are .1 .1 .0 .1) (are .1 .1 .1 .0 .1) (are .1 .1 .1 .1 .0 .1) C Λ (are .0 .0 .1) within))
 
 store-meets : {M : Type 1} (𝓤 : URA M) (H : Heap 𝓤) (A : Atoms 𝓤) → Given 𝓤 H A → (mem : Memory → SProp 𝓤) (run : Routine → Fun 𝓤) (𝓣 : Tables 𝓤 H)
     → Meets 𝓤 H A store′.signature (WpFn 𝓤 H (𝓣 .C) (𝓣 .Λ) code.function) (store′.spec 𝓤 H A mem run)
