@@ -1,5 +1,5 @@
 -- 385 rows are enough for any request, so that the request on numbers answers for the records. Assumes nothing.
-use Prim.Native.Nat.{ℕ, _+_, _*_, _/_, _≤_}
+use Prim.Native.Nat.{ℕ, _+_, _*_, _≤_}
 use mathlib.Core.Path.{_≡_, refl, sym, ap, _∙_}
 use mathlib.Core.Bool.{Bool, true, false, cond}
 use mathlib.Core.List.{List, [], _∷_, _++_, append-assoc}
@@ -7,8 +7,8 @@ use mathlib.Core.Option.{Option, some, none}
 use native.Mathlib.Omega.{arith}
 use lib.Dec.{ltb}
 use lib.ListN.{length, take, drop, take-append-drop}
-use lib.Seq.{length-take-le, drop-append-le, drop-drop}
-use borrow.Author.Tests.{lt-ltb, le-ltb, ltb-true, ltb-false}
+use lib.Seq.{length-take-le, drop-append-le}
+use borrow.Author.Tests.{le-ltb, ltb-true, ltb-false}
 use Rattle.rows.specs.Number.{stored}
 use Rattle.rules.specs.Book.{Book}
 use Rattle.rules.specs.Requests.{Done}
@@ -19,7 +19,7 @@ use Rattle.rules.specs.declared.Head.{Head}
 use Rattle.rules.specs.declared.Order.{Order}
 use Rattle.rules.specs.declared.Refusal.{Refusal}
 use Rattle.rules.specs.declared.Changed.{Changed}
-use Rattle.theorems.proofs.RequestLaws.{Fits, common-none, verdict-append, limits-none}
+use Rattle.theorems.proofs.RequestLaws.{common-none, verdict-append, limits-none}
 use Rattle.theorems.proofs.OrderLaws.{mostRows, rows-enough}
 use Rattle.theorems.proofs.ServeLaws.{length-orders}
 use Rattle.orders.specs.declared.Request.{Request as Asked}

@@ -1,12 +1,12 @@
 -- The laws of rows of numbers that become records. Assumes nothing.
-use Prim.Native.Nat.{ℕ, zero, suc, _+_, _*_, _≤_, _<_}
+use Prim.Native.Nat.{ℕ, suc, _+_, _*_, _≤_, _<_}
 use mathlib.Core.Path.{_≡_, refl, sym, ap, ap₂, _∙_}
 use mathlib.Core.List.{List, [], _∷_, _++_, append-assoc}
 use native.Mathlib.Nat.{add-zero}
 use native.Mathlib.Numerals.{add-one}
 use native.Mathlib.Omega.{arith}
 use lib.ListN.{length, take, drop, getD, set, replicate, length-append, length-drop, length-replicate}
-use lib.Seq.{take-all, take-suc, getD-take, getD-drop, drop-cons, set-at, append-snoc}
+use lib.Seq.{take-all, take-suc, getD-take, getD-drop, drop-cons, set-at}
 use Rattle.rows.specs.Number.{stored, rowsOf}
 use Rattle.rows.proofs.Table.{length-rows, row-at, rows-front, rows-laid}
 use Rattle.rules.specs.Calls.{orderRow, orderRows}

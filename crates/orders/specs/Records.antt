@@ -5,7 +5,7 @@ use mathlib.Core.Bool.{cond}
 use mathlib.Core.List.{List, [], _++_}
 use mathlib.Core.Option.{Option, some, none}
 use lib.Dec.{ltb}
-use lib.ListN.{length, take, drop, getD}
+use lib.ListN.{length, drop, getD}
 use Rattle.rows.specs.Number.{rowsOf}
 use Rattle.rules.specs.Requests.{Done}
 use Rattle.rules.specs.Bytes.{Tables, bookIn}

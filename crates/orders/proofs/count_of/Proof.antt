@@ -4,26 +4,19 @@ use Rattle.orders.specs.Records.{countOf}
 use borrow.Author.Needs.{needs}
 use Rattle.orders.proofs.count_of.Statement.{statement}
 use Rattle.orders.proofs.count_of.Tie as tie
-use Rattle.orders.proofs.count_of.Reads as reads
-use Rattle.orders.proofs.count_of.Lts as lts
 
--- src/lib.rt:109:26
 enum-known-c : tie.Need-enum-known-c
 enum-known-c c = search needs
 
--- src/lib.rt:109:32
 cast-result : tie.Need-cast-result
 cast-result c = search needs
 
--- src/lib.rt:110:27
 enum-told : tie.Need-enum-told
 enum-told c = search needs
 
--- src/lib.rt:105:1
 returns : tie.Need-returns
 returns c = sym (ap countOf (c .before .c .given .1))
 
--- src/lib.rt:105:1
 returns-2 : tie.Need-returns-2
 returns-2 c = search needs
 

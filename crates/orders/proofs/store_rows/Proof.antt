@@ -2,12 +2,11 @@
 -- Assumes nothing.
 use mathlib.Core.Path.{_≡_, refl, sym, _∙_, ap, subst}
 use Prim.Native.Nat.{ℕ, zero, suc, _+_, _*_, _≤_, _<_, _^_}
-use native.Mathlib.Nat.{add-zero, add-suc}
 use native.Mathlib.Numerals.{add-one}
 use native.Mathlib.Omega.{arith}
-use mathlib.Core.Bool.{Bool, true, false}
+use mathlib.Core.Bool.{Bool, true}
 use mathlib.Core.List.{[], _∷_, List}
-use lib.Dec.{T as Holds, ltb, lit<}
+use lib.Dec.{T as Holds, lit<}
 use lib.ListN.{length, set}
 use lib.WfN.{Nat·lt-wfRel}
 use borrow.Author.Tests.{lt-ltb, le-ltb}
@@ -29,14 +28,14 @@ use types.Kit.{Given, Item, ‵, raw, some, later, _⊛_, ⋆, anyQ, atRet, _$_,
 use types.Run.{look, init, store, forget, stop, hop, fld, from, load, addr, lit, unit-lit, of-opd, bin, and-then, no-more, assigns, assigns-last, stays, leaves-loop, land, returns, enter, alloc1, alloc0, params1, pass1, pass0, free1, free0, exec}
 use types.Part.{agg, whole, sub, look-in}
 use types.Tokens.{lft-new, lft-end}
-use sound.WpLaws.{FmC, fmOf, WpFn-mono}
+use sound.WpLaws.{fmOf, WpFn-mono}
 use denote.RattleType.{owns}
 use denote.Memory.{pointee}
-use denote.Laws.{Is, shows}
+use denote.Laws.{Is}
 use denote.Plain.{uint-makes, uint-vals, uint-tells}
 use denote.Builtin.{u16, usize, unit}
 use denote.Ref.{RefT}
-use denote.Slice.{sliceVal, sliceTy, MutSlice, ShrSlice, Room, finally, slice-vals, mut-slice-tells, shr-slice-tells, shr-slice-copy}
+use denote.Slice.{sliceVal, sliceTy, MutSlice, ShrSlice, Room, slice-vals, mut-slice-tells, shr-slice-tells, shr-slice-copy}
 use denote.Steps.{only, owned, heard, nothing}
 use denote.Signature.{plain}
 use denote.Triple.Entry.{onEntry}
