@@ -1,0 +1,4 @@
+pub mod Request
+pub mod Reading
+pub mod Answer
+pub mod Examples
