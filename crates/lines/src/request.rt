@@ -114,8 +114,9 @@ fn number_in(piece: &[u8]) -> Decimal
 }
 
 // The numbers of a line's rest, each behind a space.
-fn read_numbers(rest: &[u8], numbers: &mut [u64; 256]) -> Numbers
+fn read_numbers(rest: &[u8], numbers: &mut [u64]) -> Numbers
     requires { ⌜ Rest (now rest) ⌝ }
+    requires { ⌜ 256 ≤ length (now numbers) ⌝ }
     ensures { λ r. ⌜ got r (now (numbers .exit)) ≡ numbersOf (behind (now (rest .entry))) ⌝ }
     ensures { λ r. ⌜ counted r ≤ 256 ⌝ }
 {

@@ -44,10 +44,10 @@ loop-again c =
     let s = c .before .before .before .before .before in (
       omega arith,
       l .inv .1
-      ∙ ⊎-elim
-        (λ w. rw (w .2, w .1 .ensures) (users-more (s .args .numbers .now) (l .i) (l .s) (omega arith) (w .0 .taken)))
-        (λ w. rw (w .1) (users-other (s .args .numbers .now) (l .i) (l .s) (omega arith) (w .0 .left)))
-        (c .if1 .came),
+          ∙ ⊎-elim
+          (λ w. rw (w .2, w .1 .ensures) (users-more (s .args .numbers .now) (l .i) (l .s) (omega arith) (w .0 .taken)))
+          (λ w. rw (w .1) (users-other (s .args .numbers .now) (l .i) (l .s) (omega arith) (w .0 .left)))
+          (c .if1 .came),
     )
 
 returns : tie.Need-returns Inv-loop μ-loop
