@@ -20,7 +20,7 @@ use Rattle.lines.specs.declared.request.Decimal.the-variants.{Is, Bad}
 
 module _ (xs : List ℕ) (i : ℕ) where
   -- the element at i, and those behind it
-  next : i < length xs → drop i xs ≡ getD xs i 0 ∷ drop (i + 1) xs
+  pub next : i < length xs → drop i xs ≡ getD xs i 0 ∷ drop (i + 1) xs
   next h = rw (add-one, drop-cons xs i 0)
 
   ended : length xs ≤ i → drop i xs ≡ []

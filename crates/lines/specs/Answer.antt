@@ -4,9 +4,11 @@
 use Prim.Native.Nat.{ℕ, zero, suc, _+_, _*_, _-_, _/_, _%_}
 use mathlib.Core.Bool.{Bool, cond, _||_}
 use mathlib.Core.List.{List, [], _∷_, _++_}
+use mathlib.Core.Path.{_≡_}
 use lib.Dec.{eqb, leb}
 use lib.ListN.{length}
 use Rattle.rows.specs.Number.{stored}
+use Rattle.lines.specs.Text.{bytes}
 use Rattle.lines.specs.declared.answer.Put.{Put}
 use Rattle.lines.specs.declared.answer.Put.the-variants.{To, Full}
 
@@ -23,9 +25,13 @@ digits n = digitsIn n n
 unfoldable pub numeral : ℕ → ℕ → List ℕ
 numeral n end = digits (n / 10) ++ ((48 + n % 10) ∷ end ∷ [])
 
--- "`kind a b`; for open `i row` or `o row`": the rows of open have 105 and 111 for their kinds
+-- the rows of open have the letters i and o for their kinds
+unfoldable pub ofOpen : ℕ → Bool
+ofOpen k = eqb k 105 || eqb k 111
+
+-- "`kind a b`; for open `i row` or `o row`"
 unfoldable pub rowText : ℕ → ℕ → ℕ → List ℕ
-rowText k a b = cond (eqb k 105 || eqb k 111) (k ∷ 32 ∷ numeral a 10) (numeral k 32 ++ (numeral a 32 ++ numeral b 10))
+rowText k a b = cond (ofOpen k) (k ∷ 32 ∷ numeral a 10) (numeral k 32 ++ (numeral a 32 ++ numeral b 10))
 
 unfoldable pub rowsText : List ℕ → List ℕ
 rowsText [] = []
@@ -34,16 +40,21 @@ rowsText (k ∷ a ∷ []) = []
 rowsText (k ∷ a ∷ b ∷ rows) = rowText k a b ++ rowsText rows
 
 unfoldable pub okText : List ℕ → List ℕ
-okText rows = 111 ∷ 107 ∷ 32 ∷ (numeral (length rows / 3) 10 ++ rowsText rows)
+okText rows = bytes "ok " ++ (numeral (length rows / 3) 10 ++ rowsText rows)
 
 unfoldable pub noText : ℕ → ℕ → List ℕ
-noText k view = 110 ∷ 111 ∷ 32 ∷ cond (eqb k 11) (numeral k 32 ++ numeral view 10) (numeral k 10)
+noText k view = bytes "no " ++ cond (eqb k 11) (numeral k 32 ++ numeral view 10) (numeral k 10)
 
 -- of an answer row and its order rows, as `serveCall` of rules/specs/Calls gives them
 unfoldable pub answerText : ℕ → ℕ → List ℕ → List ℕ
 answerText number view rows = cond (eqb number 0) (okText rows) (noText number view)
 
--- what is written, and where it ends
+-- a text was put at a place of what was lent: where it ends, and what is there now
+pub record Puts (text : List ℕ) (at : ℕ) (out : List ℕ) (end : ℕ) (now : List ℕ) : Type 0 where
+  pub ends : end ≡ at + length text
+  pub holds : now ≡ stored at text out
+
+-- what the call answers and leaves
 pub record Written : Type 0 where
   pub answer : Put
   pub out : List ℕ

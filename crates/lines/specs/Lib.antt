@@ -1,3 +1,4 @@
+pub mod Text
 pub mod Request
 pub mod Reading
 pub mod Answer

@@ -9,6 +9,7 @@ use lib.ListN.{length, getD}
 use Rattle.sets.specs.Sets.{single, union}
 use Rattle.rules.specs.Lists.{every, some, first}
 use Rattle.rules.specs.declared.Mode.{Mode}
+use Rattle.lines.specs.Text.{bytes}
 use Rattle.lines.specs.declared.request.Asked.{Asked}
 use Rattle.lines.specs.declared.request.Line.{Line}
 use Rattle.lines.specs.declared.request.Line.the-variants as line
@@ -61,15 +62,8 @@ pieces (c ∷ cs) = let ps = pieces cs in cond (eqb c 32) ([] ∷ ps) (longer c 
 
 -- ---- requests
 
--- join, insert, grant, revoke, open
 unfoldable pub words : List (List ℕ)
-words =
-    (106 ∷ 111 ∷ 105 ∷ 110 ∷ [])
-    ∷ (105 ∷ 110 ∷ 115 ∷ 101 ∷ 114 ∷ 116 ∷ [])
-    ∷ (103 ∷ 114 ∷ 97 ∷ 110 ∷ 116 ∷ [])
-    ∷ (114 ∷ 101 ∷ 118 ∷ 111 ∷ 107 ∷ 101 ∷ [])
-    ∷ (111 ∷ 112 ∷ 101 ∷ 110 ∷ [])
-    ∷ []
+words = bytes "join" ∷ bytes "insert" ∷ bytes "grant" ∷ bytes "revoke" ∷ bytes "open" ∷ []
 
 -- which of the words; 5 for none
 unfoldable pub kindOf : List ℕ → ℕ
@@ -125,7 +119,7 @@ lineAsks bs = cond (leb (length bs) 512) (requestOf (pieces bs)) line.Malformed
 -- ---- "The first line of standard input is `delta` or `full`": mode 0 full, 1 delta
 
 unfoldable pub modes : List (List ℕ)
-modes = (102 ∷ 117 ∷ 108 ∷ 108 ∷ []) ∷ (100 ∷ 101 ∷ 108 ∷ 116 ∷ 97 ∷ []) ∷ []
+modes = bytes "full" ∷ bytes "delta" ∷ []
 
 unfoldable pub modeOf : ℕ → First
 modeOf k = cond (ltb k 2) (first-line.Of (record { 0 = k })) first-line.Malformed
