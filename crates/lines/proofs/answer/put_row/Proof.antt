@@ -1,66 +1,77 @@
+-- `lines::answer::put_row` meets its contract.  Assumes nothing.
+use mathlib.Core.Path.{sym, _∙_}
+use native.Mathlib.Omega.{arith}
+use lib.ListN.{length-set}
 use borrow.Author.Needs.{needs}
+use Rattle.lines.proofs.Texts.{six, letter, row-open, row-plain}
 use Rattle.lines.proofs.answer.put_row.Statement.{statement}
 use Rattle.lines.proofs.answer.put_row.Tie as tie
-use Rattle.lines.proofs.answer.put_row.Reads as reads
-use Rattle.lines.proofs.answer.put_row.Lts as lts
-use Rattle.lines.proofs.answer.of_open.Reads as of-open-reads
-use Rattle.lines.proofs.answer.put_numeral.Reads as put-numeral-reads
 
--- src/answer.rt:51:8
 of-open-requires : tie.Need-of-open-requires
 of-open-requires c κs = search needs
 
--- src/answer.rt:52:19
 cast-out : tie.Need-cast-out
-cast-out c = ?
+cast-out c = let s = c .before .before .before in omega (arith, letter (s .args .kind) (sym (c .before .of-open .ensures) ∙ c .if1 .taken))
 
--- src/answer.rt:52:9
 slice-write-out : tie.Need-slice-write-out
 slice-write-out c = search needs
 
--- src/answer.rt:53:13
 add-out : tie.Need-add-out
 add-out c = search needs
 
--- src/answer.rt:53:9
 slice-write-out-2 : tie.Need-slice-write-out-2
-slice-write-out-2 c = ?
+slice-write-out-2 c = simp length-set (omega arith)
 
--- src/answer.rt:54:50
 add-put-numeral : tie.Need-add-put-numeral
 add-put-numeral c = search needs
 
--- src/answer.rt:54:9
 put-numeral-requires : tie.Need-put-numeral-requires
-put-numeral-requires c κs = ?
+put-numeral-requires c κs = let s = c .before .before .before .before in simp length-set (omega (arith, six (s .args .a) 10 (s .fits .a .fits)))
 
--- src/answer.rt:54:9
 same-length : tie.Need-same-length
-same-length c = ?
+same-length c = c .before .before .put-numeral .kept .1 .1 .0 ∙ simp length-set
 
--- src/answer.rt:54:9
 returns : tie.Need-returns
-returns c = ?
+returns c =
+    let s = c .before .before .before .before .before .before .before in
+    row-open (s .args .kind) (s .args .a) (s .args .b) (sym (c .before .before .before .before .before .of-open .ensures) ∙ c .before .before .before .before .if1 .taken) (omega (arith, s .pre)) (c .before .before .put-numeral .ensures)
 
--- src/answer.rt:56:9
 put-numeral-requires-2 : tie.Need-put-numeral-requires-2
-put-numeral-requires-2 c κs = ?
+put-numeral-requires-2 c κs = let s = c .before .before .before .before in omega (arith, six (s .args .kind) 32 (s .fits .kind .fits), s .pre)
 
--- src/answer.rt:57:9
 put-numeral-requires-3 : tie.Need-put-numeral-requires-3
-put-numeral-requires-3 c κs = ?
+put-numeral-requires-3 c κs =
+    let s = c .before .before .before .before .before .before .before .before in
+    let first = c .before .before .before .put-numeral2 in
+    omega (arith, six (s .args .kind) 32 (s .fits .kind .fits), six (s .args .a) 32 (s .fits .a .fits), s .pre, first .ensures .ends, first .kept .1 .1 .0)
 
--- src/answer.rt:58:5
 put-numeral-requires-4 : tie.Need-put-numeral-requires-4
-put-numeral-requires-4 c κs = ?
+put-numeral-requires-4 c κs =
+    let s = c .before .before .before .before .before .before .before .before .before .before .before .before in
+    let first = c .before .before .before .before .before .before .before .put-numeral2 in
+    let second = c .before .before .before .put-numeral3 in
+    omega (
+      arith,
+      six (s .args .kind) 32 (s .fits .kind .fits),
+      six (s .args .a) 32 (s .fits .a .fits),
+      six (s .args .b) 10 (s .fits .b .fits),
+      s .pre,
+      first .ensures .ends,
+      first .kept .1 .1 .0,
+      second .ensures .ends,
+      second .kept .1 .1 .0,
+    )
 
--- src/answer.rt:47:1
 same-length-2 : tie.Need-same-length-2
 same-length-2 c = search needs
 
--- src/answer.rt:47:1
 returns-2 : tie.Need-returns-2
-returns-2 c = ?
+returns-2 c =
+    let s = c .before .before .before .before .before .before .before .before .before .before .before .before .before .before .before in
+    let first = c .before .before .before .before .before .before .before .before .before .before .put-numeral2 in
+    row-plain (s .args .kind) (s .args .a) (s .args .b) (sym (c .before .before .before .before .before .before .before .before .before .before .before .before .before .of-open .ensures) ∙ c .before .before .before .before .before .before .before .before .before .before .before .before .if1 .left) (omega (arith, s .pre))
+    (omega (arith, six (s .args .kind) 32 (s .fits .kind .fits), s .pre, first .ensures .ends, first .kept .1 .1 .0))
+    (first .ensures) (c .before .before .before .before .before .before .put-numeral3 .ensures) (c .before .before .put-numeral4 .ensures)
 
 pub put-row-spec : {M : Type 1} → statement M
 put-row-spec =
