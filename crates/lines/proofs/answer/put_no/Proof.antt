@@ -44,7 +44,7 @@ returns c =
     let first = c .before .before .before .before .before .before .put-numeral in
     let same = simp length-set at (first .kept .1 .1 .0) in
     closed-text (omega (arith, s .pre)) (omega (arith, six 11 32 (omega arith), s .pre, first .ensures .ends, same))
-    (s .args .number) (s .args .view) (c .before .before .before .before .before .before .before .before .if1 .taken) (first .ensures) (c .before .before .put-numeral2 .ensures)
+    (s .args .number) (s .args .view) (omega (arith, c .before .before .before .before .before .before .before .before .if1 .taken)) (first .ensures) (c .before .before .put-numeral2 .ensures)
 
 add-put-numeral-2 : tie.Need-add-put-numeral-2
 add-put-numeral-2 c = search needs

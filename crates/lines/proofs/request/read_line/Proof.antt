@@ -1,6 +1,7 @@
 -- `lines::request::read_line` meets its contract.  Assumes nothing.
 use Prim.Native.Nat.{_≤_}
 use mathlib.Core.Path.{sym}
+use native.Mathlib.Omega.{arith}
 use lib.ListN.{length}
 use lib.Seq.{length-take-le}
 use borrow.Author.Needs.{needs}
@@ -10,10 +11,10 @@ use Rattle.lines.proofs.request.read_line.Tie as tie
 
 -- the word ends within the line
 ends : (c : tie.After-piece-end) → c .piece-end .result ≤ length (c .before .before .before .args .line .now)
-ends c = word-within (c .before .before .before .args .line .now) (c .piece-end .result) (c .before .if1 .left) (c .piece-end .ensures)
+ends c = word-within (c .before .before .before .args .line .now) (c .piece-end .result) (omega arith) (c .piece-end .ensures)
 
 returns : tie.Need-returns
-returns c = sym (too-long (c .before .before .args .line .now) (c .if1 .taken))
+returns c = sym (too-long (c .before .before .args .line .now) (omega arith))
 
 piece-end-requires : tie.Need-piece-end-requires
 piece-end-requires c κs = search needs

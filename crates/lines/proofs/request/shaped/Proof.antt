@@ -18,7 +18,7 @@ returns-2 : tie.Need-returns-2
 unfolding shaped
 returns-2 c =
     let s = c .before .before in
-    rw (lt-leb (length (s .args .piece .now)) 5 (c .if2 .taken)) (go (leb 1 (length (s .args .piece .now))))
+    rw (lt-leb (length (s .args .piece .now)) 5 (omega arith)) (go (leb 1 (length (s .args .piece .now))))
   where
     go : (b : Bool) → false ≡ (b && false)
     go true = refl
