@@ -1,21 +1,19 @@
 -- Loops that go through a list: what they still look for stands in the part that they have not passed. Assumes nothing.
-use Prim.Native.Nat.{ℕ, zero, suc, _+_, _*_, _-_, _^_, _≤_, _<_}
-use mathlib.Core.Path.{_≡_, refl, sym, ap, _∙_}
-use mathlib.Core.Bool.{Bool, true, false, cond, _&&_, _||_, not, false≢true}
-use mathlib.Core.List.{List, [], _∷_, map}
+use Prim.Native.Nat.{ℕ, suc, _+_, _*_, _-_, _^_, _≤_, _<_}
+use mathlib.Core.Path.{_≡_, refl, sym, ap}
+use mathlib.Core.Bool.{Bool, true, false, _&&_, _||_, not}
+use mathlib.Core.List.{List, [], _∷_}
 use native.Mathlib.Nat.{pow-suc, pow-le-pow-right}
 use native.Mathlib.Numerals.{add-one}
 use native.Mathlib.Omega.{arith}
-use lib.Dec.{eqb, leb, ltb}
+use lib.Dec.{eqb, leb}
 use lib.ListN.{length, take, drop, getD, drop-of-length-le, length-drop}
 use lib.Seq.{drop-cons, take-all}
-use borrow.Author.Tests.{leb-true, lt-leb, le-leb, ne-eqb, eq-eqb, lt-ltb, le-ltb}
+use borrow.Author.Tests.{leb-true, lt-leb, le-leb, lt-ltb, le-ltb}
 use Rattle.sets.specs.Sets.{single, union}
 use Rattle.sets.proofs.Laws.{union-assoc, both}
 use Rattle.rules.specs.Lists.{some, every, first}
-use Rattle.lines.specs.Request.{same, digit, shaped, isNumber, valueFrom, value, numberIn, twice, users, above}
-use Rattle.lines.specs.Reading.{space}
-use Rattle.lines.specs.declared.request.Decimal.{Decimal}
+use Rattle.lines.specs.Request.{same, digit, shaped, isNumber, valueFrom, value, numberIn, twice, users}
 use Rattle.lines.specs.declared.request.Decimal.the-variants.{Is, Bad}
 
 module _ (xs : List ℕ) (i : ℕ) where

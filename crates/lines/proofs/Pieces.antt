@@ -1,19 +1,18 @@
 -- The pieces of a line, one after the other. Assumes nothing.
-use Prim.Native.Nat.{ℕ, zero, suc, _+_, _-_, _≤_, _<_}
+use Prim.Native.Nat.{ℕ, suc, _+_, _-_, _≤_, _<_}
 use mathlib.Core.Path.{_≡_, refl, sym, ap, _∙_}
 use mathlib.Core.Bool.{Bool, true, false, cond, _&&_}
 use mathlib.Core.List.{List, [], _∷_, _++_, map, append-assoc, append-nil}
 use mathlib.Core.Option.{Option, some, none}
-use native.Mathlib.Nat.{zero-add}
 use native.Mathlib.Numerals.{add-one}
 use native.Mathlib.Omega.{arith}
 use lib.Dec.{eqb}
 use lib.ListN.{length, take, drop, getD, set, length-take, length-drop}
 use lib.Seq.{drop-cons, drop-drop, getD-drop, take-suc-set}
-use borrow.Author.Tests.{eq-eqb, eqb-true}
+use borrow.Author.Tests.{eqb-true}
 use Rattle.rules.specs.Lists.{first, every}
 use Rattle.lines.specs.Request.{longer, pieces, shaped, isNumber, value, numberIn}
-use Rattle.lines.specs.Reading.{space, tail, behind, numbersOf}
+use Rattle.lines.specs.Reading.{space, behind, numbersOf}
 use Rattle.lines.specs.declared.request.Decimal.the-variants.{Is, Bad}
 
 -- the first piece, and the pieces behind the space that ends it

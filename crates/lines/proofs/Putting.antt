@@ -1,12 +1,11 @@
 -- Texts put one behind the other, and the decimal digits of a number. Assumes nothing.
-use Prim.Native.Nat.{ℕ, zero, suc, _+_, _*_, _-_, _/_, _%_, _^_, _≤_, _<_}
+use Prim.Native.Nat.{ℕ, zero, suc, _+_, _/_, _%_, _^_, _≤_, _<_}
 use mathlib.Core.Path.{_≡_, refl, sym, ap, _∙_}
-use mathlib.Core.Bool.{Bool, true, false, _||_}
 use mathlib.Core.List.{List, [], _∷_, _++_, append-assoc}
 use native.Mathlib.Nat.{pow-suc, add-assoc}
 use native.Mathlib.Numerals.{add-one}
 use native.Mathlib.Omega.{arith}
-use lib.ListN.{length, take, drop, getD, set, length-append, length-take, length-set}
+use lib.ListN.{length, take, drop, set, length-append, length-take, length-set}
 use lib.Seq.{take-at, drop-at, drop-drop, set-split}
 use Rattle.rows.specs.Number.{stored}
 use Rattle.rows.proofs.Laws.{stored-none, length-stored}
@@ -36,9 +35,8 @@ stored-behind at a b t k h e =
       drop-drop,
       length-append a b,
       ← add-assoc at (length a) (length b),
-      append-assoc,
-      append-assoc,
     )
+    (simp append-assoc)
 
 pub put-then : {a b : List ℕ} {at m r : ℕ} {out mid now : List ℕ} → at ≤ length out → Puts a at out m mid → Puts b m mid r now → Puts (a ++ b) at out r now
 put-then {a} {b} {at} {m} {r} {out} h p q =

@@ -3,14 +3,13 @@ use Prim.Native.Nat.{ℕ, zero, suc, _+_, _-_, _≤_, _<_}
 use mathlib.Core.Path.{_≡_, refl, sym, ap, _∙_}
 use mathlib.Core.Bool.{Bool, true, false, cond}
 use mathlib.Core.List.{List, [], _∷_, map}
-use mathlib.Core.Option.{Option, some, none}
+use mathlib.Core.Option.{some, none}
 use native.Mathlib.Nat.{zero-add}
 use native.Mathlib.Omega.{arith}
-use lib.Dec.{ltb}
 use lib.ListN.{length, take, drop, getD, length-drop}
 use borrow.Author.Tests.{lt-ltb, le-ltb, le-leb, lt-leb}
 use Rattle.rules.specs.Lists.{first, every}
-use Rattle.lines.specs.Request.{isNumber, value, twice, users, above, asking, joinOf, insertOf, pairOf, rowOf, asksFor, requestOf, lineAsks, kindOf, pieces}
+use Rattle.lines.specs.Request.{isNumber, value, twice, users, above, asking, joinOf, insertOf, pairOf, rowOf, asksFor, requestOf, lineAsks, kindOf}
 use Rattle.lines.specs.Reading.{space, behind, Rest, numbersOf}
 use Rattle.lines.specs.declared.request.Line.{Line}
 use Rattle.lines.specs.declared.request.Line.the-variants.{Malformed}

@@ -1,19 +1,18 @@
 -- The text of an answer, part by part. Assumes nothing.
-use Prim.Native.Nat.{ℕ, zero, suc, _+_, _*_, _-_, _/_, _^_, _≤_, _<_}
-use mathlib.Core.Path.{_≡_, refl, sym, ap, ap₂, _∙_}
+use Prim.Native.Nat.{ℕ, _+_, _*_, _-_, _/_, _^_, _≤_, _<_}
+use mathlib.Core.Path.{_≡_, refl, ap₂, _∙_}
 use mathlib.Core.Bool.{Bool, true, false, cond}
 use mathlib.Core.Logic.{⊎-elim}
 use mathlib.Core.List.{List, [], _∷_, _++_}
 use native.Mathlib.Omega.{arith}
-use lib.Dec.{eqb, leb}
+use lib.Dec.{eqb}
 use lib.ListN.{length, drop, getD, set, length-append, length-set, length-drop}
-use borrow.Author.Tests.{eq-eqb, ne-eqb, eqb-true, le-leb, lt-leb}
+use borrow.Author.Tests.{ne-eqb, eqb-true, le-leb, lt-leb}
 use Rattle.sets.proofs.Laws.{either}
-use Rattle.rows.specs.Number.{stored}
-use Rattle.lines.specs.Answer.{numeral, ofOpen, rowText, rowsText, okText, noText, answerText, Puts, Written, writing, roomFor, putAnswer}
+use Rattle.lines.specs.Answer.{numeral, ofOpen, rowText, rowsText, okText, noText, answerText, Puts, writing, roomFor, putAnswer}
 use Rattle.lines.specs.declared.answer.Put.the-variants.{To, Full}
 use Rattle.lines.proofs.Passed.{next}
-use Rattle.lines.proofs.Putting.{put-then, put-two, put-three, put-length, numeral-long}
+use Rattle.lines.proofs.Putting.{put-then, put-two, put-three, numeral-long}
 
 -- a 16-bit number and the byte behind it take 6 bytes at most, a 64-bit one 21
 pub six : (n last : ℕ) → n < 2 ^ 16 → length (numeral n last) ≤ 6

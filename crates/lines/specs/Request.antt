@@ -8,9 +8,7 @@ use lib.Dec.{eqb, leb, ltb}
 use lib.ListN.{length, getD}
 use Rattle.sets.specs.Sets.{single, union}
 use Rattle.rules.specs.Lists.{every, some, first}
-use Rattle.rules.specs.declared.Mode.{Mode}
 use Rattle.lines.specs.Text.{bytes}
-use Rattle.lines.specs.declared.request.Asked.{Asked}
 use Rattle.lines.specs.declared.request.Line.{Line}
 use Rattle.lines.specs.declared.request.Line.the-variants as line
 use Rattle.lines.specs.declared.request.First.{First}

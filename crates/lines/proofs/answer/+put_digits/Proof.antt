@@ -1,11 +1,9 @@
 -- `lines::answer::put_digits`, which calls itself, meets its contract. The measure is the number. Assumes nothing.
-use Prim.Native.Nat.{ℕ, _+_, _<_, _≤_}
-use mathlib.Core.Path.{_≡_, sym, ap, _∙_}
+use Prim.Native.Nat.{ℕ, _<_}
 use native.Mathlib.Omega.{arith}
 use lib.ListN.{length, length-set}
 use borrow.Fn.Kinds.{In}
 use borrow.Fn.PlainCycle.{Measures, is, falls, and}
-use Rattle.lines.specs.Answer.{digits}
 use Rattle.lines.proofs.Putting.{put-none, digits-none, digits-length, put-digit}
 use Rattle.lines.proofs.answer.put_digits.Reads as put-digits
 use Rattle.lines.proofs.answer.put_digits.Kinds as put-digits-kinds

@@ -1,6 +1,5 @@
--- `lines::answer::of_open` meets its contract.  Assumes nothing.
-use mathlib.Core.Path.{sym}
-use borrow.Author.Tests.{eq-eqb, ne-eqb}
+-- `lines::answer::of_open` meets its contract. Assumes nothing.
+use borrow.Author.Tests.{ne-eqb}
 use Rattle.lines.specs.Answer.{ofOpen}
 use Rattle.lines.proofs.answer.of_open.Statement.{statement}
 use Rattle.lines.proofs.answer.of_open.Tie as tie

@@ -1,4 +1,4 @@
--- `lines::answer::put_answer` meets its contract.  Assumes nothing.
+-- `lines::answer::put_answer` meets its contract. Assumes nothing.
 use native.Mathlib.Omega.{arith}
 use borrow.Author.Needs.{needs}
 use Rattle.lines.proofs.Texts.{no-room, put-accepted, put-refused}

@@ -1,5 +1,5 @@
--- `lines::answer::put_no` meets its contract.  Assumes nothing.
-use mathlib.Core.Path.{sym, _∙_}
+-- `lines::answer::put_no` meets its contract. Assumes nothing.
+use mathlib.Core.Path.{_∙_}
 use native.Mathlib.Omega.{arith}
 use lib.ListN.{length-set}
 use borrow.Author.Needs.{needs}

@@ -1,6 +1,5 @@
--- `lines::answer::put_numeral` meets its contract.  Assumes nothing.
+-- `lines::answer::put_numeral` meets its contract. Assumes nothing.
 use Prim.Native.Nat.{_+_, _≤_}
-use mathlib.Core.Path.{_≡_}
 use native.Mathlib.Omega.{arith}
 use lib.ListN.{length, length-set}
 use borrow.Author.Needs.{needs}

@@ -1,4 +1,4 @@
--- `lines::answer::put_ok` meets its contract.  Assumes nothing.
+-- `lines::answer::put_ok` meets its contract. Assumes nothing.
 use Prim.Native.Nat.{_+_, _*_, _/_, _≤_}
 use mathlib.Core.Path.{_∙_}
 use native.Mathlib.Omega.{arith}

@@ -1,4 +1,4 @@
--- `lines::answer::put_row` meets its contract.  Assumes nothing.
+-- `lines::answer::put_row` meets its contract. Assumes nothing.
 use mathlib.Core.Path.{sym, _∙_}
 use native.Mathlib.Omega.{arith}
 use lib.ListN.{length-set}

@@ -1,4 +1,4 @@
--- `lines::request::read_line` meets its contract.  Assumes nothing.
+-- `lines::request::read_line` meets its contract. Assumes nothing.
 use Prim.Native.Nat.{_≤_}
 use mathlib.Core.Path.{sym}
 use native.Mathlib.Omega.{arith}

@@ -1,6 +1,6 @@
 -- `lines::request::read_numbers` meets its contract. The invariant: the numbers read stand in front of those of the pieces still to come. Assumes nothing.
 use Prim.Native.Nat.{_+_, _≤_, _<_, _-_}
-use mathlib.Core.Path.{_≡_, refl, sym, ap, _∙_}
+use mathlib.Core.Path.{_≡_, refl, sym, _∙_}
 use native.Mathlib.Omega.{arith}
 use lib.ListN.{length, take, drop, getD, drop-of-length-le, length-set}
 use borrow.Author.Needs.{needs}

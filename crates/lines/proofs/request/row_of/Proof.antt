@@ -1,5 +1,5 @@
--- `lines::request::row_of` meets its contract.  Assumes nothing.
-use mathlib.Core.Path.{_≡_, sym, _∙_, ap, ap₂}
+-- `lines::request::row_of` meets its contract. Assumes nothing.
+use mathlib.Core.Path.{sym, _∙_, ap₂}
 use native.Mathlib.Omega.{arith}
 use borrow.Author.Needs.{needs}
 use Rattle.lines.specs.Request.{asking}

@@ -1,11 +1,11 @@
--- `lines::request::shaped` meets its contract.  Assumes nothing.
+-- `lines::request::shaped` meets its contract. Assumes nothing.
 use mathlib.Core.Path.{_≡_, refl}
 use mathlib.Core.Bool.{Bool, true, false, _&&_}
 use lib.Dec.{leb}
 use lib.ListN.{length}
 use borrow.Author.Needs.{needs}
 use native.Mathlib.Omega.{arith}
-use borrow.Author.Tests.{le-leb, lt-leb, eq-eqb, ne-eqb}
+use borrow.Author.Tests.{le-leb, lt-leb, ne-eqb}
 use Rattle.lines.specs.Request.{shaped}
 use Rattle.lines.proofs.request.shaped.Statement.{statement}
 use Rattle.lines.proofs.request.shaped.Tie as tie

@@ -1,6 +1,6 @@
 -- `lines::request::users_of` meets its contract. The invariant: the users are those gathered and those still to come. Assumes nothing.
 use Prim.Native.Nat.{_≤_, _-_}
-use mathlib.Core.Path.{_≡_, sym, ap, _∙_}
+use mathlib.Core.Path.{_≡_, sym, _∙_}
 use mathlib.Core.Logic.{⊎-elim}
 use native.Mathlib.Omega.{arith}
 use lib.Bits.{or-zero-l, or-zero-r}
