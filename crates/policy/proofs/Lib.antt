@@ -1,2 +1,3 @@
 pub mod RequestCalls
 pub mod OpenLaws
+pub mod ServeLaws
