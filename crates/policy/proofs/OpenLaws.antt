@@ -345,7 +345,7 @@ module _ (b : Book) (u r room : ℕ) where
 
 -- the answer of the check
 module _ (h : Head) (t : Tables) {k : Checked} (ek : k ≡ checked h t) where
-  checked-no : {n : Refusal} → k ≡ checks.No n → verdict (common t (bookIn h t)) ≡ some n
+  pub checked-no : {n : Refusal} → k ≡ checks.No n → verdict (common t (bookIn h t)) ≡ some n
   unfolding checked checkedBy
   checked-no {n} e = go (verdict (common t (bookIn h t))) (sym ek ∙ e)
     where
