@@ -14,6 +14,10 @@
 //! | [`report`] | a difference with its seed and smallest case; bounded runs |
 //! | [`books`] | check, section, read and write |
 //! | `requests` | join, insert, grant, revoke, view and open (feature `requests`) |
+//! | [`desk`] | the engine's request program as a process |
+//! | [`lines`] | lines of scripts, fine and malformed |
+//! | [`script`] | one script on both programs; smaller scripts that still differ |
+//! | [`scripts`] | whole scripts, program against program |
 //! | [`command`] | the arguments of the programs |
 //! | `standin` | a stand-in for the library, with faults (feature `self-test`) |
 
@@ -23,13 +27,17 @@
 pub mod books;
 pub mod command;
 pub mod compare;
+pub mod desk;
 pub mod engine;
 pub mod limits;
+pub mod lines;
 pub mod memory;
 pub mod model;
 pub mod report;
 #[cfg(feature = "requests")]
 pub mod requests;
+pub mod script;
+pub mod scripts;
 pub mod shrink;
 pub mod side;
 #[cfg(feature = "self-test")]

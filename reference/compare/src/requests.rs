@@ -14,7 +14,7 @@ use fenstubble_reference::sets::UserSet;
 
 use crate::books::{longer, resize, sample, shorter, some_book};
 use crate::compare::{Call, Difference, Done, Given, Tally};
-use crate::limits::{self, Counts};
+use crate::limits::{self, of_size, Counts};
 use crate::memory::{Filler, Lent, Memory};
 use crate::report::{random_of, Bounds, Report, Session};
 use crate::shrink::Case;
@@ -495,14 +495,22 @@ impl Requests {
         for _ in 0..256 {
             grow(&mut book, &Request::Insert(UserSet::first(63).into()));
         }
-        let mut world = self.world(random, book);
-        for numbers in [0, 3 * 319, 3 * 320 - 1] {
-            self.ask(&mut world, Call::Grant(255, 63), numbers)?;
+        // The same, with the one granted already the first user's alone: the
+        // most orders that are known of.
+        let mut one_less = book.book().clone();
+        one_less.resources[255].list = UserSet::first(1);
+        one_less.resources[255].outer = one_less.own_outer_vertex(User(0));
+        for (book, rows) in [(book, 320), (sound(one_less), 324)] {
+            let mut world = self.world(random, book);
+            for numbers in [0, 3 * (rows - 1), 3 * rows - 1] {
+                self.ask(&mut world, Call::Grant(255, 63), numbers)?;
+            }
+            for r in [255, 0, 1, 254] {
+                self.step(&mut world, random, Call::Grant(r, 63))?;
+            }
+            self.steps(&mut world, random, 40, 64)?;
         }
-        for r in [255, 0, 1, 254] {
-            self.step(&mut world, random, Call::Grant(r, 63))?;
-        }
-        self.steps(&mut world, random, 40, 64)
+        Ok(())
     }
 
     /// A call that mostly is refused, also with no list at all.
@@ -631,15 +639,6 @@ fn grow(book: &mut SoundBook, request: &Request) {
     if let Err(no) = book.answer(request, usize::MAX) {
         panic!("a request that leads to a limit: {no}");
     }
-}
-
-/// A random set of so many of 64 users.
-fn of_size(random: &mut Random, size: u32) -> UserSet {
-    let mut set = UserSet::EMPTY;
-    while set.size() < size {
-        set = set.with(User::at(random.below(64)));
-    }
-    set
 }
 
 /// The call as a request; a view is none.

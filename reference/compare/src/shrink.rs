@@ -282,7 +282,7 @@ impl Loose {
 
 /// As few of these as found that still differ: parts are left out, long ones
 /// first.
-fn fewer<T: Clone>(all: &[T], differs: impl Fn(&[T]) -> bool) -> Vec<T> {
+pub fn fewer<T: Clone>(all: &[T], differs: impl Fn(&[T]) -> bool) -> Vec<T> {
     let mut left = all.to_vec();
     let mut part = left.len().div_ceil(2);
     while part > 0 {
