@@ -8,10 +8,11 @@ use fenstubble_reference::generate::{self, Random, Shape};
 use fenstubble_reference::sets::UserSet;
 use fenstubble_reference::sound::{broken_rules, Rule};
 
-use crate::compare::{Call, Tally};
+use crate::compare::Tally;
 use crate::limits;
 use crate::memory::{Filler, Lent, Memory};
 use crate::report::{random_of, Bounds, Report, Session};
+use crate::side::Call;
 
 /// What was compared.
 #[derive(Clone, Debug, Default)]
