@@ -13,6 +13,7 @@ use crate::limits;
 use crate::memory::{Filler, Lent, Memory};
 use crate::report::{random_of, Bounds, Report, Session};
 use crate::side::Call;
+use crate::worlds::{large, LARGEST};
 
 /// What was compared.
 #[derive(Clone, Debug, Default)]
@@ -204,6 +205,7 @@ impl Books {
                 self.book(random, &limits::book(mode, &counts))?;
             }
         }
+        self.book(random, large(&LARGEST).book.book())?;
         for base in [sample(Mode::Delta), sample(Mode::Full)] {
             for field in 0..6 {
                 for value in head_values(&base, field) {

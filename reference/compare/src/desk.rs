@@ -36,18 +36,27 @@ impl Desk {
     /// The engine's program: the one that the environment variable
     /// `FENSTUBBLE_DESK` names, else `target/bin/desk`.
     pub fn find() -> Result<Desk, String> {
-        let path = match env::var_os("FENSTUBBLE_DESK") {
-            Some(path) => PathBuf::from(path),
+        let named = env::var_os("FENSTUBBLE_DESK").map(PathBuf::from);
+        let path = match &named {
+            Some(path) => path.clone(),
             None => Path::new(env!("CARGO_MANIFEST_DIR")).join(DEFAULT),
         };
         if !path.is_file() {
-            return Err(format!(
-                "the engine's program is not there: {} (`rt check desk` makes target/bin/desk; \
-                 FENSTUBBLE_DESK can name another)",
-                path.display()
-            ));
+            return Err(match named {
+                Some(path) => format!("there is no program {}", path.display()),
+                None => {
+                    "the engine's program, target/bin/desk, is not there (`rt check desk` makes \
+                         it; FENSTUBBLE_DESK can name another)"
+                        .into()
+                }
+            });
         }
         Ok(Desk::at(path, &[]))
+    }
+
+    /// Where it is.
+    pub fn path(&self) -> &Path {
+        &self.path
     }
 
     /// The program at that path, started with these arguments.

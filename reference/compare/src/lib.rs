@@ -18,13 +18,17 @@
 //! | [`lines`] | lines of scripts, fine and malformed |
 //! | [`script`] | one script on both programs; smaller scripts that still differ |
 //! | [`scripts`] | whole scripts, program against program |
+//! | [`worlds`] | the books that are measured |
+//! | [`bench`], [`clock`] | the measurements; processor time |
 //! | [`command`] | the arguments of the programs |
 //! | `standin` | a stand-in for the library, with faults (feature `self-test`) |
 
 #![deny(unsafe_code)]
 #![warn(missing_docs)]
 
+pub mod bench;
 pub mod books;
+pub mod clock;
 pub mod command;
 pub mod compare;
 pub mod desk;
@@ -41,3 +45,4 @@ pub mod shrink;
 pub mod side;
 #[cfg(feature = "self-test")]
 pub mod standin;
+pub mod worlds;

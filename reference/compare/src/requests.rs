@@ -19,6 +19,7 @@ use crate::memory::{Filler, Lent, Memory};
 use crate::report::{random_of, Bounds, Report, Session};
 use crate::shrink::Case;
 use crate::side::{Call, Given};
+use crate::worlds::{large, LARGEST, NEARLY};
 
 /// What was compared.
 #[derive(Clone, Debug, Default)]
@@ -478,6 +479,10 @@ impl Requests {
                 }
                 self.steps(&mut world, random, 6, 64)?;
             }
+        }
+        for size in [LARGEST, NEARLY] {
+            let mut world = self.world(random, large(&size).book);
+            self.steps(&mut world, random, 40, 64)?;
         }
         Ok(())
     }

@@ -19,6 +19,7 @@ use crate::lines::{
 };
 use crate::report::{random_of, Bounds, Report};
 use crate::script::{difference, kind, shown, smallest, Difference, Script};
+use crate::worlds::{large, LARGEST};
 
 /// What was compared.
 #[derive(Clone, Debug, Default)]
@@ -68,7 +69,7 @@ type Outcome = Result<(), Box<Report>>;
 
 /// The cases that are the same for every seed, but for random lists and
 /// requests.
-const FIXED: [fn(&mut Scripts, &mut Random) -> Outcome; 10] = [
+const FIXED: [fn(&mut Scripts, &mut Random) -> Outcome; 11] = [
     Scripts::first_lines,
     Scripts::numbers,
     Scripts::spaces_and_words,
@@ -79,6 +80,7 @@ const FIXED: [fn(&mut Scripts, &mut Random) -> Outcome; 10] = [
     Scripts::eight,
     Scripts::nine,
     Scripts::many_rows,
+    Scripts::largest,
 ];
 
 /// Compares about so many lines.
@@ -529,6 +531,16 @@ impl Scripts {
             writer.ask(Request::Grant(Resource(r), User(63)));
         }
         writer.any(random, 100, 64, 8);
+        self.compare(random, &writer.script())
+    }
+
+    /// To the largest book, and on.
+    fn largest(&mut self, random: &mut Random) -> Outcome {
+        let mut writer = Writer::new(Mode::Delta, 0);
+        for request in large(&LARGEST).script {
+            writer.ask(request);
+        }
+        writer.any(random, 200, 64, 8);
         self.compare(random, &writer.script())
     }
 
