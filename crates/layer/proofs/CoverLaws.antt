@@ -16,13 +16,9 @@ use Rattle.sets.proofs.Laws.{both, size-none, within-empty}
 use Rattle.rules.specs.Lists.{keep, numbered}
 use Rattle.rules.specs.Layer.{ofSize, bySize, takes, cover}
 use Rattle.layer.specs.Cover.{coverOf, fresh}
+use Rattle.theorems.proofs.ListLaws.{length-numbered}
 
 -- ---- a vertex with its number
-
-length-numbered : (n : ℕ) (xs : List ℕ) → length (numbered n xs) ≡ length xs
-unfolding numbered
-length-numbered n [] = refl
-length-numbered n (x ∷ xs) = ap suc (length-numbered (suc n) xs)
 
 drop-numbered : (n : ℕ) (xs : List ℕ) (i : ℕ) → i < length xs → drop i (numbered n xs) ≡ (n + i, getD xs i 0) ∷ drop (suc i) (numbered n xs)
 unfolding numbered
