@@ -11,7 +11,6 @@ use borrow.Author.Tests.{lt-ltb, le-ltb}
 use types.Run.{OneOf, miss}
 use denote.Enum.Declared.{tagOf}
 use Rattle.rules.proofs.Refusal.{the-type}
-use Rattle.rules.specs.Bytes.{Tables}
 use Rattle.rules.specs.Refusals.{number, viewTold}
 use Rattle.rules.specs.Calls.{Asked, nothing, asked, refusedOne, changeOne}
 use Rattle.rules.specs.declared.Head.{Head}

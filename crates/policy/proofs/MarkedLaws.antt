@@ -3,7 +3,7 @@
 use Prim.Native.Nat.{ℕ, _+_, _*_, _/_, _-_, _≤_}
 use mathlib.Core.Path.{_≡_, refl, sym, ap, ap₂, _∙_}
 use mathlib.Core.List.{List, [], _∷_, _++_, append-assoc}
-use mathlib.Core.Option.{Option, some, none}
+use mathlib.Core.Option.{Option, none}
 use native.Mathlib.Omega.{arith}
 use lib.ListN.{length, take, drop}
 use lib.Seq.{take-at, drop-at}
@@ -14,7 +14,7 @@ use Rattle.rules.specs.Book.{Book}
 use Rattle.rules.specs.Open.{innerChain, outerChain}
 use Rattle.rules.specs.Bytes.{Tables, bookIn}
 use Rattle.rules.specs.Refusals.{opened, refusalOpen}
-use Rattle.rules.specs.Calls.{rowsLent, opens, One, one, openOne, chainRows}
+use Rattle.rules.specs.Calls.{rowsLent, opens, one, openOne, chainRows}
 use Rattle.rules.specs.declared.Head.{Head}
 use Rattle.rules.specs.declared.Refusal.{Refusal}
 use Rattle.plan.specs.Judge.{Ready}

@@ -39,7 +39,10 @@ pair-asks-requires : tie.Need-pair-asks-requires
 pair-asks-requires c κs = above (c .before .before)
 
 returns-5 : tie.Need-returns-5
-returns-5 c = let a = c .before .before .before .before .before .args in row-pair (a .kind) (a .a) (a .b) (above (c .before .before .before)) (omega arith) (omega (arith, ltb-false 65535 (a .b) (c .before .if5 .left))) (c .pair-asks .ensures)
+returns-5 c =
+    let a = c .before .before .before .before .before .args in
+    row-pair (a .kind) (a .a) (a .b) (above (c .before .before .before)) (omega arith) (omega (arith, ltb-false 65535 (a .b) (c .before .if5 .left)))
+    (c .pair-asks .ensures)
 
 pub row-asks-spec : {M : Type 1} → statement M
 row-asks-spec =
