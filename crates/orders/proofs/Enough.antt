@@ -22,8 +22,7 @@ use Rattle.rules.specs.declared.Changed.{Changed}
 use Rattle.theorems.proofs.RequestLaws.{common-none, verdict-append, limits-none}
 use Rattle.theorems.proofs.OrderLaws.{mostRows, rows-enough}
 use Rattle.theorems.proofs.ServeLaws.{length-orders}
-use Rattle.orders.specs.declared.Request.{Request as Asked}
-use Rattle.orders.specs.Records.{asked, over, least, ordersIn, filled, countOf, recording, recordsBy, recordedBy, recorded}
+use Rattle.orders.specs.Records.{over, least, ordersIn, filled, countOf, recording, recordsBy, recordedBy, recorded}
 use Rattle.orders.proofs.Records.{over-none, orders-back}
 
 -- ---- 10 on `room` rows is 10 on as many of them as can be needed
@@ -94,11 +93,6 @@ pub filled-counts : (q : Request) (h : Head) (t : Tables) (room : ℕ) (rows : L
 filled-counts q h t room rows {n = n} e k l =
     let few : n ≤ least room = rw (k ∙ ap (λ (z : Change). countOf (z .answer)) e) (filled-few q h t room rows) in
     (omega (arith, l, few, least-fits room .1), omega (arith, few, least-fits room .0))
-
--- ---- the request that was asked
-
-pub call-by : (h : Head) (t : Tables) (list : List ℕ) {asks given : Asked} {made : Change} → asks ≡ given → made ≡ change (asked given) h t list → made ≡ change (asked asks) h t list
-call-by h t list e k = k ∙ ap (λ (z : Asked). change (asked z) h t list) (sym e)
 
 -- ---- the request on a part of the numbers
 

@@ -9,24 +9,15 @@ use lib.ListN.{length, drop, getD}
 use Rattle.rows.specs.Number.{rowsOf}
 use Rattle.rules.specs.Requests.{Done}
 use Rattle.rules.specs.Bytes.{Tables, bookIn}
-use Rattle.rules.specs.Refusals.{Request, joins, inserts, grants, revokes, work, refusal}
+use Rattle.rules.specs.Refusals.{Request, work, refusal}
 use Rattle.rules.specs.Calls.{Change, changeBy}
 use Rattle.rules.specs.declared.Head.{Head}
 use Rattle.rules.specs.declared.Order.{Order}
 use Rattle.rules.specs.declared.Refusal.{Refusal}
 use Rattle.rules.specs.declared.Changed.{Changed}
 use Rattle.rules.specs.declared.Changed.the-variants as changed
-use Rattle.orders.specs.declared.Request.{Request as Asked}
-use Rattle.orders.specs.declared.Request.the-variants.{Join, Insert, Grant, Revoke}
 
 -- ---- the call
-
--- the request that the paper knows
-abbrev pub asked : Asked → Request
-asked Join = joins
-asked (Insert l) = inserts (l .0)
-asked (Grant r u) = grants (r .0) (u .0)
-asked (Revoke r u) = revokes (r .0) (u .0)
 
 -- "list rows .. past the answer, are never touched"
 unfoldable pub over : List Order → List Order → List Order

@@ -1,29 +1,17 @@
 // The requests that change the book, with the order list lent as records of three numbers each. The work is that of `policy::requests`, on an array of numbers; its rows are then
 // stored as records, one by one, by `store`.
 // The five tables are iv, it, ov, ot, rs: inner vertices and tokens, outer vertices and tokens, resources.
-use policy::requests::grant;
-use policy::requests::insert;
-use policy::requests::join;
-use policy::requests::revoke;
+use plan::Request;
 use rules::Changed;
 use rules::Head;
 use rules::Order;
-use rules::Resource;
-use sets::User;
-use sets::Users;
 ghost use mathlib.Core.Path.{_≡_};
 ghost use Prim.Native.Nat.{_<_, _≤_, _+_, _*_};
 ghost use lib.ListN.{length, set};
 ghost use Rattle.rules.specs.Bytes.{tables};
-ghost use Rattle.rules.specs.Calls.{changing, change as changeCall};
-ghost use Rattle.orders.specs.Records.{orderAt, ordersIn, over, least, countOf, asked, filled, recording, recorded};
-
-pub enum Request {
-    Join,
-    Insert(Users),
-    Grant(Resource, User),
-    Revoke(Resource, User),
-}
+ghost use Rattle.rules.specs.Calls.{changing};
+ghost use Rattle.plan.specs.Judge.{requestOf};
+ghost use Rattle.orders.specs.Records.{orderAt, ordersIn, over, least, countOf, filled, recording, recorded};
 
 // The most orders that a request gives (`rows-enough`).
 const MOST: usize = 385;
@@ -78,27 +66,6 @@ fn rows_for(room: usize) -> usize
     MOST
 }
 
-// The call that the request names.
-fn call(
-    h: Head,
-    iv: &mut [u8],
-    it: &mut [u8],
-    ov: &mut [u8],
-    ot: &mut [u8],
-    rs: &mut [u8],
-    request: Request,
-    orders: &mut [u16],
-) -> Changed
-    ensures { λ c. ⌜ changing c (tables (now (iv .exit)) (now (it .exit)) (now (ov .exit)) (now (ot .exit)) (now (rs .exit))) (now (orders .exit)) ≡ changeCall (asked request) h (tables (now (iv .entry)) (now (it .entry)) (now (ov .entry)) (now (ot .entry)) (now (rs .entry))) (now (orders .entry)) ⌝ }
-{
-    match request {
-        Request::Join => join(h, iv, it, ov, ot, rs, orders),
-        Request::Insert(l) => insert(h, iv, it, ov, ot, rs, orders, l),
-        Request::Grant(r, u) => grant(h, iv, it, ov, ot, rs, orders, r, u),
-        Request::Revoke(r, u) => revoke(h, iv, it, ov, ot, rs, orders, r, u),
-    }
-}
-
 // The request on `room` rows of orders, which go to the first of these numbers.
 fn fill(
     h: Head,
@@ -112,10 +79,10 @@ fn fill(
     room: usize,
 ) -> Changed
     requires { ⌜ 1155 ≤ length (now rows) ⌝ }
-    ensures { λ c. ⌜ changing c (tables (now (iv .exit)) (now (it .exit)) (now (ov .exit)) (now (ot .exit)) (now (rs .exit))) (now (rows .exit)) ≡ filled (asked request) h (tables (now (iv .entry)) (now (it .entry)) (now (ov .entry)) (now (ot .entry)) (now (rs .entry))) room (now (rows .entry)) ⌝ }
+    ensures { λ c. ⌜ changing c (tables (now (iv .exit)) (now (it .exit)) (now (ov .exit)) (now (ot .exit)) (now (rs .exit))) (now (rows .exit)) ≡ filled (requestOf request) h (tables (now (iv .entry)) (now (it .entry)) (now (ov .entry)) (now (ot .entry)) (now (rs .entry))) room (now (rows .entry)) ⌝ }
 {
     let end = rows_for(room) * 3;
-    call(h, iv, it, ov, ot, rs, request, &mut rows[..end])
+    policy::requests::change(h, iv, it, ov, ot, rs, &mut rows[..end], request)
 }
 
 fn count_of(c: Changed) -> usize
@@ -138,7 +105,7 @@ pub fn change(
     request: Request,
     records: &mut [Order],
 ) -> Changed
-    ensures { λ c. ⌜ recording c (tables (now (iv .exit)) (now (it .exit)) (now (ov .exit)) (now (ot .exit)) (now (rs .exit))) (now (records .exit)) ≡ recorded (asked request) h (tables (now (iv .entry)) (now (it .entry)) (now (ov .entry)) (now (ot .entry)) (now (rs .entry))) (now (records .entry)) ⌝ }
+    ensures { λ c. ⌜ recording c (tables (now (iv .exit)) (now (it .exit)) (now (ov .exit)) (now (ot .exit)) (now (rs .exit))) (now (records .exit)) ≡ recorded (requestOf request) h (tables (now (iv .entry)) (now (it .entry)) (now (ov .entry)) (now (ot .entry)) (now (rs .entry))) (now (records .entry)) ⌝ }
 {
     let mut rows = [0u16; MOST * 3];
     let c = fill(h, iv, it, ov, ot, rs, request, &mut rows, records.len());

@@ -233,7 +233,7 @@ def walk():
     c.do('rewrite ! 0 (λ (m : ℕ). ‵ (Rows-shr l₉ ν₂ γ₂ (rows zs) m)) len-r refl $')
     c.move(TOKENS[K], 'ν₂', own('list'), 'rows')
     c.do('cut (Store-items l₉ ν₂ γ₂ (rows zs)) (raw (Store 𝓤 H A mem run .pre (to-store l₉ ν₂ γ₂ (rows zs) n)) ∷ []) _'
-         ' (goes-store l₉ ν₂ γ₂ (rows zs) n (is₁ .1) (filled-counts (asked x) h tbl (length (list .now)) zeros e e₁ len-r)) $')
+         ' (goes-store l₉ ν₂ γ₂ (rows zs) n (is₁ .1) (filled-counts (requestOf x) h tbl (length (list .now)) zeros e e₁ len-r)) $')
     c.becomes(4, 'pre')
     c.do('calls-at ! fm (Store 𝓤 H A mem run) known-store (to-store l₉ ν₂ γ₂ (rows zs) n) %s (λ w₂.' % args([load('_27'), load('_29'), load(COUNT)]), 1)
     called = '(κ%d, (ν₂ ∷ [], tt)) (list, (at-rows l₉ γ₂ (rows zs), (n, tt)))' % K
@@ -281,7 +281,7 @@ def walk():
     c.do('free0 ! $')
     kept = TOKENS + [last(t) for t in TABLES] + [last('list')]
     c.do('keep ! (%s ∷ []) $' % ' ∷ '.join(str(c.at(n)) for n in kept))
-    c.do('by ! (exits c w (after zs) (ls .0) (recorded-by (asked x) h tbl zeros (list .now) e e₁ e₂) %s len-list is)' % ' '.join('len-' + t for t in TABLES) + ')' * c.open)
+    c.do('by ! (exits c w (after zs) (ls .0) (recorded-by (requestOf x) h tbl zeros (list .now) e e₁ e₂) %s len-list is)' % ' '.join('len-' + t for t in TABLES) + ')' * c.open)
     return c.steps
 
 

@@ -61,12 +61,13 @@ use Rattle.rules.proofs.Head as TH
 use Rattle.rules.proofs.Head.Laws as TH′
 use Rattle.rules.proofs.Changed as TC
 use Rattle.rules.proofs.Changed.Laws as TC′
-use Rattle.orders.specs.declared.Request.{Request}
-use Rattle.orders.specs.Records.{asked, over, ordersIn, filled, countOf, recording, recorded}
+use Rattle.plan.specs.declared.Request.{Request}
+use Rattle.plan.specs.Judge.{requestOf}
+use Rattle.orders.specs.Records.{over, ordersIn, filled, countOf, recording, recorded}
 use Rattle.orders.proofs.Records.{zeros, zeros-are, zeros-length}
 use Rattle.orders.proofs.Enough.{filled-counts, recorded-by}
-use Rattle.orders.proofs.Request as TR
-use Rattle.orders.proofs.Request.Laws as TR′
+use Rattle.plan.proofs.Request as TR
+use Rattle.plan.proofs.Request.Laws as TR′
 use Rattle.orders.proofs.fill as fill
 use Rattle.orders.proofs.fill.Symbol as fill-def
 use Rattle.orders.proofs.fill.Symbol.{name as #orders·fill}
@@ -174,7 +175,7 @@ module _ {M : Type 1} (𝓤 : URA M) (H : Heap 𝓤) (A : Atoms 𝓤) (W : Given
   after zs = tables (zs .1 .0) (zs .1 .1 .0) (zs .1 .1 .1 .0) (zs .1 .1 .1 .1 .0) (zs .1 .1 .1 .1 .1 .0)
 
   abbrev Filled : Changed → Fill-lasts → Type 0
-  Filled c zs = changing c (after zs) (rows zs) ≡ filled (asked x) h tbl (length (list .now)) zeros
+  Filled c zs = changing c (after zs) (rows zs) ≡ filled (requestOf x) h tbl (length (list .now)) zeros
 
   abbrev fill-κs : ℕ → Lfts 6
   fill-κs ν = (κ0, (κ1, (κ2, (κ3, (κ4, (ν ∷ [], tt))))))
@@ -238,7 +239,7 @@ module _ {M : Type 1} (𝓤 : URA M) (H : Heap 𝓤) (A : Atoms 𝓤) (W : Given
       qed W (Store-items m ν δ ys) ∵ says ! ok $ nothing ! $ move ! (2 ∷ 0 ∷ []) $ join ! $ move ! (1 ∷ 0 ∷ []) $ join ! $ frame ! $
       nothing ! $ owned ! usize (Is usize) (uint-makes 𝓤 H A W w64) n _ (refl, fits) $ fjoin ! $ move ! (2 ∷ 0 ∷ []) $ fjoin ! $ move ! (1 ∷ 0 ∷ []) $ fjoin ! $ done !
 
-  exits : (c : Changed) (w : Val) (u : Tables) (zs : List Order) → recording c u zs ≡ recorded (asked x) h tbl (list .now) → length (u .innerVertices) ≡ length (iv .now) → length (u .innerTokens) ≡ length (it .now) → length (u .outerVertices) ≡ length (ov .now) → length (u .outerTokens) ≡ length (ot .now) → length (u .resources) ≡ length (rs .now) → length zs ≡ length (list .now) → Is TC.the-row c (w ∷ [])
+  exits : (c : Changed) (w : Val) (u : Tables) (zs : List Order) → recording c u zs ≡ recorded (requestOf x) h tbl (list .now) → length (u .innerVertices) ≡ length (iv .now) → length (u .innerTokens) ≡ length (it .now) → length (u .outerVertices) ≡ length (ov .now) → length (u .outerTokens) ≡ length (ot .now) → length (u .resources) ≡ length (rs .now) → length zs ≡ length (list .now) → Is TC.the-row c (w ∷ [])
       → ent 𝓤 (⋆ 𝓤 H A (‵ (flft κ0 q0) ∷ ‵ (flft κ1 q1) ∷ ‵ (flft κ2 q2) ∷ ‵ (flft κ3 q3) ∷ ‵ (flft κ4 q4) ∷ ‵ (flft κ5 q5) ∷ ‵ (finally u8 (iv .name) (u .innerVertices)) ∷ ‵ (finally u8 (it .name) (u .innerTokens)) ∷ ‵ (finally u8 (ov .name) (u .outerVertices)) ∷ ‵ (finally u8 (ot .name) (u .outerTokens)) ∷ ‵ (finally u8 (rs .name) (u .resources)) ∷ ‵ (finally T.the-row (list .name) zs) ∷ [])) (Post w)
   exits c w u zs eq len-iv len-it len-ov len-ot len-rs len-list is =
       qed W (‵ (flft κ0 q0) ∷ ‵ (flft κ1 q1) ∷ ‵ (flft κ2 q2) ∷ ‵ (flft κ3 q3) ∷ ‵ (flft κ4 q4) ∷ ‵ (flft κ5 q5) ∷ ‵ (finally u8 (iv .name) (u .innerVertices)) ∷ ‵ (finally u8 (it .name) (u .innerTokens)) ∷ ‵ (finally u8 (ov .name) (u .outerVertices)) ∷ ‵ (finally u8 (ot .name) (u .outerTokens)) ∷ ‵ (finally u8 (rs .name) (u .resources)) ∷ ‵ (finally T.the-row (list .name) zs) ∷ []) ∵
@@ -383,7 +384,7 @@ module _ {M : Type 1} (𝓤 : URA M) (H : Heap 𝓤) (A : Atoms 𝓤) (W : Given
         move ! (1 ∷ []) $ use1 W (later (some (λ (γ₂ : GName). ‵ (Rows-shr l₉ ν₂ γ₂ (rows zs) (length (rows zs))) ⊛ ‵ (flent (ν₂ ∷ []) (arr-parts (shares u16) (length (rows zs)) .part fullShare (rows zs) l₉ 0))))) (lends-shr-slice 𝓤 H A W u16 (named 1) (ν₂ ∷ []) fullShare (rows zs) l₉ 0 (subst (Room u16) (sym len-r) (lit< tt, lit< tt))) $
         await ! tt $ pick ! (λ γ₂. split ! $
         rewrite ! 0 (λ (m : ℕ). ‵ (Rows-shr l₉ ν₂ γ₂ (rows zs) m)) len-r refl $
-        move ! (20 ∷ 2 ∷ 22 ∷ 0 ∷ []) $ cut (Store-items l₉ ν₂ γ₂ (rows zs)) (raw (Store 𝓤 H A mem run .pre (to-store l₉ ν₂ γ₂ (rows zs) n)) ∷ []) _ (goes-store l₉ ν₂ γ₂ (rows zs) n (is₁ .1) (filled-counts (asked x) h tbl (length (list .now)) zeros e e₁ len-r)) $
+        move ! (20 ∷ 2 ∷ 22 ∷ 0 ∷ []) $ cut (Store-items l₉ ν₂ γ₂ (rows zs)) (raw (Store 𝓤 H A mem run .pre (to-store l₉ ν₂ γ₂ (rows zs) n)) ∷ []) _ (goes-store l₉ ν₂ γ₂ (rows zs) n (is₁ .1) (filled-counts (requestOf x) h tbl (length (list .now)) zeros e e₁ len-r)) $
         calls-at ! fm (Store 𝓤 H A mem run) known-store (to-store l₉ ν₂ γ₂ (rows zs) n) (and-then ! (load ! (from ! (stop !)) (look ! 26 refl)) (and-then ! (load ! (from ! (stop !)) (look ! 22 refl)) (and-then ! (load ! (from ! (stop !)) (look ! 58 refl)) (no-more !)))) (λ w₂.
         use1 W (later (some (λ (u : Unit {0}). ((‵ (flft κ5 q5) ⊛ ‵ (flft (ν₂ ∷ []) fullShare) ⊛ ‵ ftrue) ⊛ ‵ (unit .own u (w₂ ∷ []))) ⊛ raw (ensured 𝓤 H A store.ended (store.clauses 𝓤 H A mem run) (κ5, (ν₂ ∷ [], tt)) (list, (at-rows l₉ γ₂ (rows zs), (n, tt))) tt u)))) (id⊢ 𝓤 _) $ await ! tt $ pick ! (λ u.
         split ! $
@@ -442,7 +443,7 @@ module _ {M : Type 1} (𝓤 : URA M) (H : Heap 𝓤) (A : Atoms 𝓤) (W : Given
         move ! (24 ∷ 25 ∷ []) $ free1 ! $
         free0 ! $
         keep ! (9 ∷ 8 ∷ 7 ∷ 6 ∷ 5 ∷ 1 ∷ 18 ∷ 17 ∷ 16 ∷ 15 ∷ 14 ∷ 2 ∷ []) $
-        by ! (exits c w (after zs) (ls .0) (recorded-by (asked x) h tbl zeros (list .now) e e₁ e₂) len-iv len-it len-ov len-ot len-rs len-list is))))))))))))))))))))))))))))))))))))))))))))))))))))))))))
+        by ! (exits c w (after zs) (ls .0) (recorded-by (requestOf x) h tbl zeros (list .now) e e₁ e₂) len-iv len-it len-ov len-ot len-rs len-list is))))))))))))))))))))))))))))))))))))))))))))))))))))))))))
 
 module _ {M : Type 1} (𝓤 : URA M) (H : Heap 𝓤) (A : Atoms 𝓤) (W : Given 𝓤 H A) (mem : Memory → SProp 𝓤) (run : Routine → Fun 𝓤) where
   change-walks : (C : Calls 𝓤 H) (Λ : Loops 𝓤 H) (fm : FmC 𝓤 H (W .laws) C) (known-fill : Triple 𝓤 (C #orders·fill) (Fill 𝓤 H A mem run)) (known-count : Triple 𝓤 (C #orders·count-of) (Count 𝓤 H A mem run)) (known-store : Triple 𝓤 (C #orders·store-rows) (Store 𝓤 H A mem run)) → Walks 𝓤 H A self.ended stayed (WpFn 𝓤 H C Λ code.function) (self.clauses 𝓤 H A mem run)

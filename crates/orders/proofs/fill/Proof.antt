@@ -13,14 +13,14 @@ rows-for-requires c κs = search needs
 mul-end : tie.Need-mul-end
 mul-end c = omega (arith, least-few (c .before .before .before .before .before .before .before .args .room) (c .rows-for .ensures))
 
-slice-relend-prefix-call : tie.Need-slice-relend-prefix-call
-slice-relend-prefix-call c = omega (arith, least-few (c .before .before .before .before .before .before .before .before .before .before .before .before .args .room) (c .before .before .before .before .before .rows-for .ensures), c .before .before .before .before .before .before .before .before .before .before .before .before .pre)
+slice-relend-prefix-change : tie.Need-slice-relend-prefix-change
+slice-relend-prefix-change c = omega (arith, least-few (c .before .before .before .before .before .before .before .before .before .before .before .before .args .room) (c .before .before .before .before .before .rows-for .ensures), c .before .before .before .before .before .before .before .before .before .before .before .before .pre)
 
-slice-aggregate-call : tie.Need-slice-aggregate-call
-slice-aggregate-call c = sym (length-take-le _ _ (slice-relend-prefix-call (c .before)))
+slice-aggregate-change : tie.Need-slice-aggregate-change
+slice-aggregate-change c = sym (length-take-le _ _ (slice-relend-prefix-change (c .before)))
 
-call-requires : tie.Need-call-requires
-call-requires c κs = search needs
+change-requires : tie.Need-change-requires
+change-requires c κs = search needs
 
 same-length : tie.Need-same-length
 same-length c = search needs
@@ -41,7 +41,7 @@ same-length-6 : tie.Need-same-length-6
 same-length-6 c = search needs
 
 returns : tie.Need-returns
-returns c = filled-by _ _ _ _ _ (c .before .before .before .before .before .before .before .before .before .before .before .before .before .before .before .before .before .before .before .before .before .before .before .before .before .before .pre) (c .before .before .before .before .before .before .before .before .before .before .before .before .before .before .before .before .before .before .before .rows-for .ensures) (c .before .before .before .before .before .before .before .before .before .before .before .before .call .ensures)
+returns c = filled-by _ _ _ _ _ (c .before .before .before .before .before .before .before .before .before .before .before .before .before .before .before .before .before .before .before .before .before .before .before .before .before .before .pre) (c .before .before .before .before .before .before .before .before .before .before .before .before .before .before .before .before .before .before .before .rows-for .ensures) (c .before .before .before .before .before .before .before .before .before .before .before .before .change .ensures)
 
 pub fill-spec : {M : Type 1} → statement M
 fill-spec =
@@ -49,9 +49,9 @@ fill-spec =
     (tie.spec
     rows-for-requires
     mul-end
-    slice-relend-prefix-call
-    slice-aggregate-call
-    call-requires
+    slice-relend-prefix-change
+    slice-aggregate-change
+    change-requires
     same-length
     same-length-2
     same-length-3
