@@ -1,17 +1,16 @@
 -- `layer::cover_of` meets its contract: at each turn of both loops, what is taken and what is left to take are the cover. Assumes nothing.
 use mathlib.Core.Path.{_≡_, refl, sym, ap, _∙_}
-use mathlib.Core.List.{List, [], _++_, append-nil}
+use mathlib.Core.List.{List, [], _++_}
 use Prim.Native.Nat.{ℕ, _+_, _*_, _-_, _≤_, _<_}
 use native.Mathlib.Omega.{arith}
 use borrow.Author.Needs.{needs}
 use lib.ListN.{length, take, set, getD, length-set}
-use lib.Seq.{length-take-le}
 use Rattle.sets.specs.Sets.{union}
 use Rattle.rules.specs.Bytes.{setsIn}
 use Rattle.theorems.proofs.CountLaws.{cover-size}
 use Rattle.layer.specs.Cover.{coverOf}
 use Rattle.layer.proofs.Read.{length-sets}
-use Rattle.layer.proofs.CoverLaws.{rest, rest-hit, rest-miss, rest-down, rest-end, rest-start, taken-next, falls}
+use Rattle.layer.proofs.CoverLaws.{rest, rest-hit, rest-miss, rest-down, rest-end, rest-covered, rest-start, taken-next, taken-all, falls}
 use Rattle.layer.proofs.cover.cover_of.Statement.{statement}
 use Rattle.layer.proofs.cover.cover_of.Tie as tie
 
@@ -33,8 +32,14 @@ Inv-cover vertices n s from₀ k₀ i₀ covered₀ taken₀ from k i covered ta
 abbrev μ-cover : tie.MeasureT-cover
 μ-cover vertices n s from₀ k₀ i₀ covered₀ taken₀ from k i covered taken = 64 - taken
 
+abbrev outer : tie.At-loop Inv-loop μ-loop Inv-cover μ-cover → tie.At-cover Inv-loop μ-loop Inv-cover μ-cover
+outer c = c .before .before .before
+
+abbrev entry : tie.At-cover Inv-loop μ-loop Inv-cover μ-cover → tie.Start Inv-loop μ-loop Inv-cover μ-cover
+entry c = c .before .before .before
+
 abbrev start : tie.At-loop Inv-loop μ-loop Inv-cover μ-cover → tie.Start Inv-loop μ-loop Inv-cover μ-cover
-start c = c .before .before .before .before
+start c = entry (outer c)
 
 abbrev sets : tie.Start Inv-loop μ-loop Inv-cover μ-cover → List ℕ
 sets s = setsIn (s .args .n) (s .args .vertices .now)
@@ -49,20 +54,20 @@ short c =
     omega (arith, cover-size (record { sets = sets s; tokens = [] }) (s .args .s .0), c .size .ensures)
 
 -- at a vertex, and past the last
-at-vertex : (c : tie.Else1 Inv-loop μ-loop Inv-cover μ-cover) → c .before .loop .i < length (sets (start (c .before)))
+at-vertex : (c : tie.Else2 Inv-loop μ-loop Inv-cover μ-cover) → c .before .loop .i < length (sets (start (c .before)))
 at-vertex c = rw length-sets (omega arith)
 
-past-last : (c : tie.Then1 Inv-loop μ-loop Inv-cover μ-cover) → length (sets (start (c .before))) ≤ c .before .loop .i
+past-last : (c : tie.Then2 Inv-loop μ-loop Inv-cover μ-cover) → length (sets (start (c .before))) ≤ c .before .loop .i
 past-last c = rw length-sets (omega arith)
 
 -- with what is left to take told in another way, the two parts are still the cover
 told : (c : tie.At-loop Inv-loop μ-loop Inv-cover μ-cover) (l : List ℕ)
-    → rest (start c .args .s .0) (sets (start c)) (c .loop .k) (c .loop .i) (c .before .cover .covered) ≡ l
-    → take (c .before .cover .taken) (c .before .cover .from) ++ l ≡ covering (start c)
-told c l e = ap (λ (r : List ℕ). take (c .before .cover .taken) (c .before .cover .from) ++ r) (sym e) ∙ c .loop .inv .1
+    → rest (start c .args .s .0) (sets (start c)) (c .loop .k) (c .loop .i) (outer c .cover .covered) ≡ l
+    → take (outer c .cover .taken) (outer c .cover .from) ++ l ≡ covering (start c)
+told c l e = ap (λ (r : List ℕ). take (outer c .cover .taken) (outer c .cover .from) ++ r) (sym e) ∙ c .loop .inv .1
 
 -- a vertex that is taken: there is a place for it, and with it stored the cover is again in two parts
-next : (c : tie.Then3 Inv-loop μ-loop Inv-cover μ-cover) → let l = c .before .before .before in let s = start l in let x = l .before .cover in
+next : (c : tie.Then4 Inv-loop μ-loop Inv-cover μ-cover) → let l = c .before .before .before in let s = start l in let x = outer l .cover in
     (x .taken < 64)
     × (take (x .taken + 1) (set (x .from) (x .taken) (l .loop .i))
     ++ rest (s .args .s .0) (sets s) (l .loop .k) (l .loop .i + 1) (union (x .covered) (getD (sets s) (l .loop .i) 0))
@@ -70,10 +75,10 @@ next : (c : tie.Then3 Inv-loop μ-loop Inv-cover μ-cover) → let l = c .before
 next c =
     let l = c .before .before .before in
     let s = start l in
-    let x = l .before .cover in
+    let x = outer l .cover in
     taken-next 64 (x .from) (x .taken) (l .loop .i) (rest (s .args .s .0) (sets s) (l .loop .k) (l .loop .i + 1) (union (x .covered) (getD (sets s) (l .loop .i) 0))) (covering s)
-    (x .inv .2) (short (l .before .before))
-    (told l _ (rest-hit (s .args .s .0) (sets s) (l .loop .k) (l .loop .i) (x .covered) (at-vertex (c .before .before)) (c .before .adds .ensures) (c .if3 .taken)))
+    (x .inv .2) (short (outer l .before))
+    (told l _ (rest-hit (s .args .s .0) (sets s) (l .loop .k) (l .loop .i) (x .covered) (at-vertex (c .before .before)) (c .before .adds .ensures) (c .if4 .taken)))
 
 size-requires : tie.Need-size-requires Inv-loop μ-loop Inv-cover μ-cover
 size-requires c κs = search needs
@@ -88,19 +93,19 @@ cover-holds c =
     )
 
 loop-holds : tie.Need-loop-holds Inv-loop μ-loop Inv-cover μ-cover
-loop-holds c = c .cover .inv .0
+loop-holds c = c .before .before .cover .inv .0
 
 sub-k : tie.Need-sub-k Inv-loop μ-loop Inv-cover μ-cover
 sub-k c = omega arith
 
 loop-less : tie.Need-loop-less Inv-loop μ-loop Inv-cover μ-cover
-loop-less c = falls (c .before .before .loop .k) (start (c .before .before) .args .n) (c .before .before .loop .i) (c .if2 .left)
+loop-less c = falls (c .before .before .loop .k) (start (c .before .before) .args .n) (c .before .before .loop .i) (c .if3 .left)
 
 loop-again : tie.Need-loop-again Inv-loop μ-loop Inv-cover μ-cover
 loop-again c =
     let l = c .before .before in
     let s = start l in
-    (omega arith, told l _ (rest-down (s .args .s .0) (sets s) (l .loop .k) (l .loop .i) (l .before .cover .covered) (past-last (c .before)) (c .if2 .left)))
+    (omega arith, told l _ (rest-down (s .args .s .0) (sets s) (l .loop .k) (l .loop .i) (outer l .cover .covered) (past-last (c .before)) (c .if3 .left)))
 
 adds-requires : tie.Need-adds-requires Inv-loop μ-loop Inv-cover μ-cover
 adds-requires c κs = omega arith
@@ -117,7 +122,7 @@ loop-again-2 c =
     let l = asked .before .before in
     let s = start l in (
       omega arith,
-      told l _ (rest-miss (s .args .s .0) (sets s) (l .loop .k) (l .loop .i) (l .before .cover .covered) (at-vertex (asked .before)) (asked .adds .ensures) (c .if3 .left)),
+      told l _ (rest-miss (s .args .s .0) (sets s) (l .loop .k) (l .loop .i) (outer l .cover .covered) (at-vertex (asked .before)) (asked .adds .ensures) (c .if4 .left)),
     )
 
 cast-from : tie.Need-cast-from Inv-loop μ-loop Inv-cover μ-cover
@@ -149,7 +154,7 @@ cover-again c =
     let hit = c .before .before in
     let l = hit .before .before .before in
     let s = start l in
-    let x = l .before .cover in
+    let x = outer l .cover in
     let joined : c .union .result .0 ≡ union (x .covered) (getD (sets s) (l .loop .i) 0) =
     c .union .ensures ∙ ap (union (x .covered)) (c .before .set-of .ensures) in (
       (omega arith, rw joined (next hit .1)),
@@ -157,15 +162,22 @@ cover-again c =
       simp length-set (x .inv .2),
     )
 
+-- nothing is left to take: all of s are covered, or the walk is past the last vertex of the last size
 returns : tie.Need-returns Inv-loop μ-loop Inv-cover μ-cover
 returns c =
+    let o = c .before .before in
+    let s = entry o in
+    let x = o .cover in
+    taken-all 64 (x .from) (x .taken) (rest (s .args .s .0) (sets s) (x .k) (x .i) (x .covered)) (covering s) (x .inv .2) (x .inv .1) (x .inv .0 .1)
+    (rest-covered (s .args .s .0) (sets s) (x .k) (x .i) (x .covered) (c .if1 .taken))
+
+returns-2 : tie.Need-returns-2 Inv-loop μ-loop Inv-cover μ-cover
+returns-2 c =
     let l = c .before .before in
     let s = start l in
-    let x = l .before .cover in
-    let all : take (x .taken) (x .from) ≡ covering s =
-    sym (append-nil (take (x .taken) (x .from))) ∙ told l [] (rest-end (s .args .s .0) (sets s) (l .loop .k) (l .loop .i) (x .covered) (past-last (c .before)) (c .if2 .taken)) in
-    let le : x .taken ≤ length (x .from) = omega (arith, x .inv) in
-    (sym (length-take-le (x .taken) (x .from) le) ∙ ap length all, (all, x .inv .1))
+    let x = outer l .cover in
+    taken-all 64 (x .from) (x .taken) (rest (s .args .s .0) (sets s) (l .loop .k) (l .loop .i) (x .covered)) (covering s) (x .inv .2) (x .inv .1) (l .loop .inv .1)
+    (rest-end (s .args .s .0) (sets s) (l .loop .k) (l .loop .i) (x .covered) (past-last (c .before)) (c .if3 .taken))
 
 pub cover-of-spec : {M : Type 1} → statement M
 cover-of-spec =
@@ -194,4 +206,5 @@ cover-of-spec =
     add-i-2
     cover-less
     cover-again
-    returns)
+    returns
+    returns-2)
