@@ -1,0 +1,5 @@
+pub mod Passed
+pub mod Pieces
+pub mod Rows
+pub mod Putting
+pub mod Texts

@@ -1,0 +1,5 @@
+pub mod Text
+pub mod Request
+pub mod Reading
+pub mod Answer
+pub mod Examples
