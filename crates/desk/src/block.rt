@@ -1,0 +1,90 @@
+// The lines that one call serves, as request rows.
+use crate::input::Unread;
+use crate::input::line_end;
+use lines::request::Asked;
+use lines::request::Line;
+use lines::request::read_line;
+
+// At most so many lines.
+pub const BLOCK: usize = 128;
+
+// The order list's rows. A block ends where fewer are left than a request may need, so that none finds the list too short.
+pub const ORDERS: usize = 6144;
+
+// The most order rows of any request, a grant's.
+pub const MOST: usize = 385;
+
+// The kind that stands for a malformed line; no request has it, so the call does nothing for its row.
+pub const MALFORMED: u64 = 14;
+
+// The most order rows of a request of this kind.
+fn most_rows(kind: u64) -> usize {
+    match kind {
+        0 => 2,
+        1 => 132,
+        2 => MOST,
+        3 => 65,
+        4 => 126,
+        _ => 0,
+    }
+}
+
+// What a line asks; `cut` says that its start was dropped because it is too long.
+fn asked(line: &[u8], cut: bool) -> Asked {
+    let malformed = Asked {
+        kind: MALFORMED,
+        a: 0,
+        b: 0,
+    };
+    if cut {
+        return malformed;
+    }
+    let l = read_line(line);
+    match l {
+        Line::Asks(q) => q,
+        Line::Malformed => malformed,
+    }
+}
+
+fn put_request(requests: &mut [u64], row: usize, q: Asked) {
+    let at = row * 3;
+    requests[at] = q.kind;
+    requests[at + 1] = q.a;
+    requests[at + 2] = q.b;
+}
+
+// How many request rows were filled, and what is left of the input.
+pub struct Block {
+    pub rows: usize,
+    pub unread: Unread,
+}
+
+// The next whole lines, until the rows or the order rows may not be enough for one more.
+pub fn read_block(input: &[u8], u: Unread, requests: &mut [u64]) -> Block {
+    let to = u.to;
+    let mut from = u.from;
+    let mut cut = u.cut;
+    let mut room = ORDERS;
+    let mut rows: usize = 0;
+    while rows < BLOCK && room >= MOST {
+        let end = line_end(input, from, to);
+        if end == to {
+            break;
+        }
+        let q = asked(&input[from..end], cut);
+        room -= most_rows(q.kind);
+        put_request(requests, rows, q);
+        rows += 1;
+        from = end + 1;
+        cut = false;
+    }
+    Block {
+        rows,
+        unread: Unread {
+            from,
+            to,
+            cut,
+            ended: u.ended,
+        },
+    }
+}

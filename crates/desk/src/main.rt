@@ -1,0 +1,191 @@
+// The request program: request lines from standard input, their answers to standard output. Its memory is fixed.
+// The five tables are iv, it, ov, ot, rs: inner vertices and tokens, outer vertices and tokens, resources.
+mod block;
+mod input;
+mod output;
+
+use block::BLOCK;
+use block::ORDERS;
+use block::read_block;
+use input::INPUT;
+use input::Unread;
+use input::read_first;
+use input::read_more;
+use input::take_mode;
+use lines::request::First;
+use output::OUTPUT;
+use output::Printed;
+use output::print_block;
+use output::refuse_start;
+use output::write_out;
+use policy::serve::serve;
+use rules::Head;
+use rules::InnerTokens;
+use rules::InnerVertices;
+use rules::Joined;
+use rules::Mode;
+use rules::OuterTokens;
+use rules::OuterVertices;
+use rules::Resources;
+use rules::Served;
+
+// The head of the empty book.
+fn empty_head(mode: Mode) -> Head {
+    Head {
+        mode,
+        users: Joined::new(0),
+        resources: Resources::new(0),
+        inner_vertices: InnerVertices::new(0),
+        inner_tokens: InnerTokens::new(0),
+        outer_vertices: OuterVertices::new(0),
+        outer_tokens: OuterTokens::new(0),
+    }
+}
+
+// Between two turns: the book's head, the input not yet read, how far the output buffer is filled, and whether the program goes on.
+struct State {
+    head: Head,
+    unread: Unread,
+    filled: usize,
+    going: bool,
+}
+
+// Where no whole line is left: the answers go out before more input is waited for.
+fn wait(s: State, input: &mut [u8], out: &mut [u8]) -> State {
+    let filled = s.filled;
+    let head = s.head;
+    let unread = s.unread;
+    let written = write_out(&out[..filled]);
+    if unread.ended || !written {
+        return State {
+            head,
+            unread,
+            filled: 0,
+            going: false,
+        };
+    }
+    State {
+        head,
+        unread: read_more(input, unread),
+        filled: 0,
+        going: true,
+    }
+}
+
+// The whole lines at hand, as many as one call serves.
+fn turn(
+    s: State,
+    iv: &mut [u8],
+    it: &mut [u8],
+    ov: &mut [u8],
+    ot: &mut [u8],
+    rs: &mut [u8],
+    requests: &mut [u64],
+    answers: &mut [u16],
+    orders: &mut [u16],
+    input: &mut [u8],
+    out: &mut [u8],
+) -> State {
+    let unread = s.unread;
+    let head = s.head;
+    let filled = s.filled;
+    let b = read_block(input, unread, requests);
+    let rows = b.rows;
+    if rows == 0 {
+        let unread = b.unread;
+        return wait(
+            State {
+                head,
+                unread,
+                filled,
+                going: true,
+            },
+            input,
+            out,
+        );
+    }
+    let end = rows * 3;
+    let served = serve(head, iv, it, ov, ot, rs, &requests[..end], answers, orders);
+    let unread = b.unread;
+    let Served::Done(head, _) = served else {
+        return State {
+            head,
+            unread,
+            filled,
+            going: false,
+        };
+    };
+    let p = print_block(&requests[..end], answers, orders, out, filled);
+    let Printed::To(filled) = p else {
+        return State {
+            head,
+            unread,
+            filled: 0,
+            going: false,
+        };
+    };
+    State {
+        head,
+        unread,
+        filled,
+        going: true,
+    }
+}
+
+// The turns are counted down from a number that no run uses up: nothing says that the input ends.
+fn answer_all(
+    s: State,
+    iv: &mut [u8],
+    it: &mut [u8],
+    ov: &mut [u8],
+    ot: &mut [u8],
+    rs: &mut [u8],
+    input: &mut [u8],
+) {
+    let mut requests = [0u64; BLOCK * 3];
+    let mut answers = [0u16; BLOCK * 3];
+    let mut orders = [0u16; ORDERS * 3];
+    let mut out = [0u8; OUTPUT];
+    let mut state = s;
+    let mut turns = u64::MAX;
+    while turns > 0 && state.going {
+        state = turn(
+            state,
+            iv,
+            it,
+            ov,
+            ot,
+            rs,
+            &mut requests,
+            &mut answers,
+            &mut orders,
+            input,
+            &mut out,
+        );
+        turns -= 1;
+    }
+}
+
+fn main() {
+    let mut input = [0u8; INPUT];
+    let unread = read_first(&mut input);
+    let t = take_mode(&input, unread);
+    let first = t.first;
+    let unread = t.unread;
+    let First::Of(mode) = first else {
+        refuse_start();
+        return;
+    };
+    let mut iv = [0u8; InnerVertices::LIMIT as usize * InnerVertices::WIDTH];
+    let mut it = [0u8; InnerTokens::LIMIT as usize * InnerTokens::WIDTH];
+    let mut ov = [0u8; OuterVertices::LIMIT as usize * OuterVertices::WIDTH];
+    let mut ot = [0u8; OuterTokens::LIMIT as usize * OuterTokens::WIDTH];
+    let mut rs = [0u8; Resources::LIMIT as usize * Resources::WIDTH];
+    let s = State {
+        head: empty_head(mode),
+        unread,
+        filled: 0,
+        going: true,
+    };
+    answer_all(s, &mut iv, &mut it, &mut ov, &mut ot, &mut rs, &mut input);
+}

@@ -1,0 +1,76 @@
+// Standard output: answers are gathered in a buffer and written out when it is full or input has to be waited for.
+use crate::block::MALFORMED;
+use libc::STDERR_FILENO;
+use libc::STDOUT_FILENO;
+use lines::answer::Put;
+use lines::answer::put_answer;
+
+// The buffer's bytes: more than the longest answer has.
+pub const OUTPUT: usize = 16384;
+
+// How far the buffer is filled; Failed where the output can't be written.
+pub enum Printed {
+    To(usize),
+    Failed,
+}
+
+// Writes a text out; says so on standard error where that fails.
+pub fn write_out(text: &[u8]) -> bool {
+    let written = io::write_all(STDOUT_FILENO, text);
+    if !written {
+        io::write_all(STDERR_FILENO, b"desk: standard output can't be written\n");
+    }
+    written
+}
+
+// The input starts with neither `delta` nor `full`.
+pub fn refuse_start() {
+    write_out(b"no 14\n");
+}
+
+// One answer behind those gathered, or at the front once those are written out.
+fn print_answer(number: u16, view: u16, rows: &[u16], out: &mut [u8], filled: usize) -> Printed {
+    if let Put::To(end) = put_answer(number, view, rows, out, filled) {
+        return Printed::To(end);
+    }
+    if !write_out(&out[..filled]) {
+        return Printed::Failed;
+    }
+    if let Put::To(end) = put_answer(number, view, rows, out, 0) {
+        return Printed::To(end);
+    }
+    Printed::Failed
+}
+
+// The number that a row's line is answered with.
+fn number_told(kind: u64, number: u16) -> u16 {
+    if kind == MALFORMED {
+        return 14;
+    }
+    number
+}
+
+// The answers of a block, each with its stretch of the order list.
+pub fn print_block(
+    requests: &[u64],
+    answers: &[u16],
+    orders: &[u16],
+    out: &mut [u8],
+    filled: usize,
+) -> Printed {
+    let mut end = filled;
+    let mut used: usize = 0;
+    let mut at: usize = 0;
+    while at + 3 <= requests.len() {
+        let number = number_told(requests[at], answers[at]);
+        let next = used + answers[at + 2] as usize * 3;
+        let p = print_answer(number, answers[at + 1], &orders[used..next], out, end);
+        let Printed::To(e) = p else {
+            return Printed::Failed;
+        };
+        end = e;
+        used = next;
+        at += 3;
+    }
+    Printed::To(end)
+}
