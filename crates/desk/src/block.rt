@@ -4,6 +4,13 @@ use crate::input::line_end;
 use lines::request::Asked;
 use lines::request::Line;
 use lines::request::read_line;
+ghost use mathlib.Core.Path.{_≡_};
+ghost use Prim.Native.Nat.{_+_, _*_, _≤_};
+ghost use lib.ListN.{length, take};
+ghost use Rattle.rows.specs.Number.{stored};
+ghost use Rattle.lines.specs.Request.{lineAsks};
+ghost use Rattle.desk.specs.Input.{Within};
+ghost use Rattle.desk.specs.Block.{rowFor, numbersOf, mostOf, mostIn};
 
 // At most so many lines.
 pub const BLOCK: usize = 128;
@@ -18,7 +25,10 @@ pub const MOST: usize = 385;
 pub const MALFORMED: u64 = 14;
 
 // The most order rows of a request of this kind.
-fn most_rows(kind: u64) -> usize {
+fn most_rows(kind: u64) -> usize
+    ensures { λ r. ⌜ r ≡ mostOf kind ⌝ }
+    ensures { λ r. ⌜ r ≤ 385 ⌝ }
+{
     match kind {
         0 => 2,
         1 => 132,
@@ -30,7 +40,9 @@ fn most_rows(kind: u64) -> usize {
 }
 
 // What a line asks; `cut` says that its start was dropped because it is too long.
-fn asked(line: &[u8], cut: bool) -> Asked {
+fn asked(line: &[u8], cut: bool) -> Asked
+    ensures { λ r. ⌜ r ≡ rowFor cut (lineAsks (now (line .entry))) ⌝ }
+{
     let malformed = Asked {
         kind: MALFORMED,
         a: 0,
@@ -46,7 +58,10 @@ fn asked(line: &[u8], cut: bool) -> Asked {
     }
 }
 
-fn put_request(requests: &mut [u64], row: usize, q: Asked) {
+fn put_request(requests: &mut [u64], row: usize, q: Asked)
+    requires { ⌜ row * 3 + 3 ≤ length (now requests) ⌝ }
+    ensures { λ _. ⌜ now (requests .exit) ≡ stored (row * 3) (numbersOf q) (now (requests .entry)) ⌝ }
+{
     let at = row * 3;
     requests[at] = q.kind;
     requests[at + 1] = q.a;
@@ -60,14 +75,20 @@ pub struct Block {
 }
 
 // The next whole lines, until the rows or the order rows may not be enough for one more.
-pub fn read_block(input: &[u8], u: Unread, requests: &mut [u64]) -> Block {
+pub fn read_block(input: &[u8], u: Unread, requests: &mut [u64]) -> Block
+    requires { ⌜ Within u (now input) ⌝ }
+    requires { ⌜ 384 ≤ length (now requests) ⌝ }
+    ensures { λ r. ⌜ Within (r .unread) (now (input .entry)) ⌝ }
+    ensures { λ r. ⌜ r .rows ≤ 128 ⌝ }
+    ensures { λ r. ⌜ mostIn (take (r .rows * 3) (now (requests .exit))) ≤ 6144 ⌝ }
+{
     let to = u.to;
     let mut from = u.from;
     let mut cut = u.cut;
     let mut room = ORDERS;
     let mut rows: usize = 0;
     while rows < BLOCK && room >= MOST {
-        let end = line_end(input, from, to);
+        let end = from + line_end(&input[from..to]);
         if end == to {
             break;
         }

@@ -2,6 +2,11 @@
 use libc::STDIN_FILENO;
 use lines::request::First;
 use lines::request::read_mode;
+ghost use mathlib.Core.Path.{_≡_};
+ghost use Prim.Native.Nat.{_-_, _≤_, _<_};
+ghost use lib.ListN.{length};
+ghost use Rattle.rules.specs.Lists.{first};
+ghost use Rattle.desk.specs.Input.{newline, Within, Kept};
 
 // The buffer's bytes: a line too long to be a request and one read more.
 pub const INPUT: usize = 16384;
@@ -17,11 +22,14 @@ pub struct Unread {
     pub ended: bool,
 }
 
-// Where the first newline stands from `from` on, or `to`.
-pub fn line_end(input: &[u8], from: usize, to: usize) -> usize {
-    let mut i = from;
-    while i < to {
-        if input[i] == b'\n' {
+// Where the first newline stands, or the end where there is none.
+pub fn line_end(stretch: &[u8]) -> usize
+    ensures { λ r. ⌜ r ≡ first newline (now (stretch .entry)) ⌝ }
+    ensures { λ r. ⌜ r ≤ length (now (stretch .entry)) ⌝ }
+{
+    let mut i: usize = 0;
+    while i < stretch.len() {
+        if stretch[i] == b'\n' {
             return i;
         }
         i += 1;
@@ -30,7 +38,11 @@ pub fn line_end(input: &[u8], from: usize, to: usize) -> usize {
 }
 
 // The bytes from `from` to `to` to the buffer's front; answers how many.
-fn to_front(input: &mut [u8], from: usize, to: usize) -> usize {
+fn to_front(input: &mut [u8], from: usize, to: usize) -> usize
+    requires { ⌜ from ≤ to ⌝ }
+    requires { ⌜ to ≤ length (now input) ⌝ }
+    ensures { λ r. ⌜ r ≡ to - from ⌝ }
+{
     let n = to - from;
     let mut i: usize = 0;
     while i < n {
@@ -41,7 +53,10 @@ fn to_front(input: &mut [u8], from: usize, to: usize) -> usize {
 }
 
 // An unfinished line at the buffer's front; of one that is too long nothing is kept.
-fn keep_start(input: &mut [u8], u: Unread) -> Unread {
+fn keep_start(input: &mut [u8], u: Unread) -> Unread
+    requires { ⌜ Within u (now input) ⌝ }
+    ensures { λ r. ⌜ Kept r ⌝ }
+{
     let from = u.from;
     let to = u.to;
     if u.cut || to - from > LONGEST {
@@ -61,7 +76,11 @@ fn keep_start(input: &mut [u8], u: Unread) -> Unread {
 }
 
 // At the end of the input: the newline that the last line may lack.
-fn end_last(input: &mut [u8], u: Unread) -> Unread {
+fn end_last(input: &mut [u8], u: Unread) -> Unread
+    requires { ⌜ Kept u ⌝ }
+    requires { ⌜ 512 < length (now input) ⌝ }
+    ensures { λ r. ⌜ Within r (now (input .exit)) ⌝ }
+{
     let to = u.to;
     if to == 0 && !u.cut {
         return Unread {
@@ -81,7 +100,11 @@ fn end_last(input: &mut [u8], u: Unread) -> Unread {
 }
 
 // One read behind an unfinished line. A read that fails ends the input, and the unfinished line is not taken for a whole one.
-pub fn read_more(input: &mut [u8], u: Unread) -> Unread {
+pub fn read_more(input: &mut [u8], u: Unread) -> Unread
+    requires { ⌜ Within u (now input) ⌝ }
+    requires { ⌜ 512 < length (now input) ⌝ }
+    ensures { λ r. ⌜ Within r (now (input .exit)) ⌝ }
+{
     let k = keep_start(input, u);
     let to = k.to;
     let got = libc::read(STDIN_FILENO, &mut input[to..]);
@@ -106,17 +129,22 @@ pub fn read_more(input: &mut [u8], u: Unread) -> Unread {
 }
 
 // Whether a whole line is still to be waited for.
-fn lacks_line(input: &[u8], u: Unread) -> bool {
+fn lacks_line(input: &[u8], u: Unread) -> bool
+    requires { ⌜ Within u (now input) ⌝ }
+{
     if u.ended {
         return false;
     }
     let from = u.from;
     let to = u.to;
-    line_end(input, from, to) == to
+    line_end(&input[from..to]) == to - from
 }
 
 // Reads until the first line is whole, or the input ends. (The count of turns: nothing says that the input ends.)
-pub fn read_first(input: &mut [u8]) -> Unread {
+pub fn read_first(input: &mut [u8]) -> Unread
+    requires { ⌜ 512 < length (now input) ⌝ }
+    ensures { λ r. ⌜ Within r (now (input .exit)) ⌝ }
+{
     let mut u = Unread {
         from: 0,
         to: 0,
@@ -137,10 +165,13 @@ pub struct Taken {
     pub unread: Unread,
 }
 
-pub fn take_mode(input: &[u8], u: Unread) -> Taken {
+pub fn take_mode(input: &[u8], u: Unread) -> Taken
+    requires { ⌜ Within u (now input) ⌝ }
+    ensures { λ r. ⌜ Within (r .unread) (now (input .entry)) ⌝ }
+{
     let from = u.from;
     let to = u.to;
-    let end = line_end(input, from, to);
+    let end = from + line_end(&input[from..to]);
     if u.cut || end == to {
         return Taken {
             first: First::Malformed,

@@ -28,6 +28,9 @@ use rules::OuterTokens;
 use rules::OuterVertices;
 use rules::Resources;
 use rules::Served;
+ghost use Prim.Native.Nat.{_≤_, _<_};
+ghost use lib.ListN.{length};
+ghost use Rattle.desk.specs.Turn.{Holds, Starts};
 
 // The head of the empty book.
 fn empty_head(mode: Mode) -> Head {
@@ -51,7 +54,10 @@ struct State {
 }
 
 // Where no whole line is left: the answers go out before more input is waited for.
-fn wait(s: State, input: &mut [u8], out: &mut [u8]) -> State {
+fn wait(s: State, input: &mut [u8], out: &mut [u8]) -> State
+    requires { ⌜ Holds s (now input) (now out) ⌝ }
+    ensures { λ r. ⌜ Holds r (now (input .exit)) (now (out .exit)) ⌝ }
+{
     let filled = s.filled;
     let head = s.head;
     let unread = s.unread;
@@ -85,7 +91,12 @@ fn turn(
     orders: &mut [u16],
     input: &mut [u8],
     out: &mut [u8],
-) -> State {
+) -> State
+    requires { ⌜ Holds s (now input) (now out) ⌝ }
+    requires { ⌜ 384 ≤ length (now requests) ⌝ }
+    requires { ⌜ 384 ≤ length (now answers) ⌝ }
+    ensures { λ r. ⌜ Holds r (now (input .exit)) (now (out .exit)) ⌝ }
+{
     let unread = s.unread;
     let head = s.head;
     let filled = s.filled;
@@ -141,7 +152,9 @@ fn answer_all(
     ot: &mut [u8],
     rs: &mut [u8],
     input: &mut [u8],
-) {
+)
+    requires { ⌜ Starts s (now input) ⌝ }
+{
     let mut requests = [0u64; BLOCK * 3];
     let mut answers = [0u16; BLOCK * 3];
     let mut orders = [0u16; ORDERS * 3];

@@ -4,6 +4,10 @@ use libc::STDERR_FILENO;
 use libc::STDOUT_FILENO;
 use lines::answer::Put;
 use lines::answer::put_answer;
+ghost use mathlib.Core.Path.{_≡_};
+ghost use Prim.Native.Nat.{_*_, _≤_};
+ghost use lib.ListN.{length};
+ghost use Rattle.desk.specs.Output.{Filled, counts};
 
 // The buffer's bytes: more than the longest answer has.
 pub const OUTPUT: usize = 16384;
@@ -29,7 +33,10 @@ pub fn refuse_start() {
 }
 
 // One answer behind those gathered, or at the front once those are written out.
-fn print_answer(number: u16, view: u16, rows: &[u16], out: &mut [u8], filled: usize) -> Printed {
+fn print_answer(number: u16, view: u16, rows: &[u16], out: &mut [u8], filled: usize) -> Printed
+    requires { ⌜ filled ≤ length (now out) ⌝ }
+    ensures { λ r. ⌜ Filled r (now (out .exit)) ⌝ }
+{
     if let Put::To(end) = put_answer(number, view, rows, out, filled) {
         return Printed::To(end);
     }
@@ -50,6 +57,12 @@ fn number_told(kind: u64, number: u16) -> u16 {
     number
 }
 
+fn wide(n: u16) -> usize
+    ensures { λ r. ⌜ r ≡ n ⌝ }
+{
+    n as usize
+}
+
 // The answers of a block, each with its stretch of the order list.
 pub fn print_block(
     requests: &[u64],
@@ -57,14 +70,20 @@ pub fn print_block(
     orders: &[u16],
     out: &mut [u8],
     filled: usize,
-) -> Printed {
+) -> Printed
+    requires { ⌜ length (now answers) ≤ length (now requests) ⌝ }
+    requires { ⌜ counts (now answers) * 3 ≤ length (now orders) ⌝ }
+    requires { ⌜ filled ≤ length (now out) ⌝ }
+    ensures { λ r. ⌜ Filled r (now (out .exit)) ⌝ }
+{
     let mut end = filled;
     let mut used: usize = 0;
     let mut at: usize = 0;
-    while at + 3 <= requests.len() {
+    while answers.len() - at >= 3 {
         let number = number_told(requests[at], answers[at]);
-        let next = used + answers[at + 2] as usize * 3;
-        let p = print_answer(number, answers[at + 1], &orders[used..next], out, end);
+        let view = answers[at + 1];
+        let next = used + wide(answers[at + 2]) * 3;
+        let p = print_answer(number, view, &orders[used..next], out, end);
         let Printed::To(e) = p else {
             return Printed::Failed;
         };
