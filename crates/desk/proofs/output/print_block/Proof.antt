@@ -88,7 +88,7 @@ part-print-answer-start : tie.Need-part-print-answer-start Inv-loop μ-loop
 part-print-answer-start c = omega (arith, used-more c)
 
 part-print-answer-end : tie.Need-part-print-answer-end Inv-loop μ-loop
-part-print-answer-end c = omega (arith, used-more (c .before))
+part-print-answer-end c = omega (arith, used-more c)
 
 print-answer-requires : tie.Need-print-answer-requires Inv-loop μ-loop
 print-answer-requires c κs = c .before .before .before .before .before .before .before .before .before .loop .inv .2
