@@ -48,4 +48,12 @@ uint16_t fenstubble_view(const uint16_t *head, size_t head_len, FENSTUBBLE_CONST
 uint16_t fenstubble_open(const uint16_t *head, size_t head_len, FENSTUBBLE_CONST_TABLES, uint16_t user, uint16_t resource, uint16_t *list,
                          size_t list_len, uint16_t *inner, uint16_t *outer);
 
+/* Several requests in one call: 13 and 12 once, first; then each on the book that those before it left and on the order rows left, as its own call would.
+ * A request is three numbers: 0 join (the others do not count); 1 insert, the list as a set, 0 (or not 0 where the list also names a user above 63); 2 grant,
+ * resource, user; 3 revoke, resource, user; 4 open, user, resource. Its answer is three numbers: the refusal's number or 0, the view for 11, the count of
+ * its rows in the order list. An open's rows are (105, row, 0) for the inner chain and (111, row, 0) for the outer. *used is how many order rows all
+ * used. Fewer answer rows than request rows is 10 for the whole call. */
+uint16_t fenstubble_serve(uint16_t *head, size_t head_len, FENSTUBBLE_TABLES, const uint64_t *requests, size_t requests_len, uint16_t *answers,
+                          size_t answers_len, uint16_t *orders, size_t orders_len, size_t *used);
+
 #endif

@@ -3,8 +3,8 @@
 use Prim.Native.Nat.{ℕ, suc, _+_, _*_, _-_, _≤_, _<_}
 use mathlib.Core.Path.{_≡_, refl, sym, ap, ap₂, subst, _∙_}
 use mathlib.Core.Bool.{Bool, true, false, not}
-use mathlib.Core.List.{List, [], _∷_, _++_}
-use mathlib.Core.Option.{Option, some, none, Option·some-ne-none}
+use mathlib.Core.List.{List, [], _∷_}
+use mathlib.Core.Option.{Option, some, none}
 use native.Mathlib.Numerals.{add-one}
 use native.Mathlib.Omega.{arith}
 use lib.Dec.{ltb}
@@ -24,7 +24,7 @@ use Rattle.rules.specs.declared.Stored.the-variants as store
 use Rattle.sound.specs.Check.{checkedBy, checked}
 use Rattle.sound.specs.declared.Checked.{Checked}
 use Rattle.sound.specs.declared.Checked.the-variants.{Sound, No}
-use Rattle.theorems.proofs.RequestLaws.{Rows, common-none, common-passed}
+use Rattle.theorems.proofs.RequestLaws.{common-none, common-passed, verdict-first}
 use Rattle.theorems.proofs.ByteLaws.{BookFits, sound-fits, sound-room, head-in}
 use Rattle.theorems.proofs.WriteLaws.{BookBytes, book-bytes, head-read, length-write, start-next, start-le}
 use Rattle.book.specs.Ready.{Loadable, Savable}
@@ -178,17 +178,10 @@ savable h t buffer s k l =
 length-saved : (h : Head) (t : Tables) → length (write (bookIn h t)) ≡ start h 5
 length-saved h t = length-write (bookIn h t) ∙ ap (λ (x : Head). start x 5) (head-in h t)
 
--- the first refusal is the answer, whatever the table has behind it
-verdict-first : (xs ys : Rows) (r : Refusal) → verdict xs ≡ some r → verdict (xs ++ ys) ≡ some r
-unfolding verdict
-verdict-first [] ys r e = absurd (Option·some-ne-none r (sym e))
-verdict-first ((q, true) ∷ xs) ys r e = e
-verdict-first ((q, false) ∷ xs) ys r e = verdict-first xs ys r e
-
 -- 13 and 12
 pub write-refused : (h : Head) (t : Tables) (buffer : List ℕ) (r : Refusal) → verdict (common t (bookIn h t)) ≡ some r → writing (store.No r) buffer ≡ writeCall h t buffer
 unfolding writeCall writeBy refusalWrite
-write-refused h t buffer r e = rw (verdict-first (common t (bookIn h t)) ((ShortList, ltb (length buffer) (length (write (bookIn h t)))) ∷ []) r e)
+write-refused h t buffer r e = rw (verdict-first (common t (bookIn h t)) ((ShortList, ltb (length buffer) (length (write (bookIn h t)))) ∷ []) e)
 
 pub write-short : (h : Head) (t : Tables) (buffer : List ℕ) → short t ≡ false → sound (bookIn h t) ≡ true → length buffer < start h 5
     → writing (store.No ShortList) buffer ≡ writeCall h t buffer

@@ -12,7 +12,7 @@ use Rattle.rules.proofs.Refusal.{the-type}
 use Rattle.rows.specs.Number.{stored}
 use Rattle.rules.specs.Bytes.{Tables}
 use Rattle.rules.specs.Refusals.{number, viewNumber, viewTold, Request}
-use Rattle.rules.specs.Calls.{Change, changing, change, viewCall, Shown, showing, openCall}
+use Rattle.rules.specs.Calls.{Change, changing, change, viewCall, Shown, showing, openCall, Service, serving, serveCall}
 use Rattle.rules.specs.declared.Head.{Head}
 use Rattle.rules.specs.declared.View.{View}
 use Rattle.rules.specs.declared.View.the-variants.{Open, SelLocked, BelLocked, Locked}
@@ -24,7 +24,9 @@ use Rattle.rules.specs.declared.Viewed.{Viewed}
 use Rattle.rules.specs.declared.Viewed.the-variants as viewed
 use Rattle.rules.specs.declared.Opened.{Opened}
 use Rattle.rules.specs.declared.Opened.the-variants as opened
-use Rattle.host.specs.Answers.{headFrom, headNumbers, resultOf, Told, toldAs, changeTold, changedAs, changeBy, changeAnswer, viewedAs, viewAs, viewAnswer, openedAs, openBy, openAnswer}
+use Rattle.rules.specs.declared.Served.{Served}
+use Rattle.rules.specs.declared.Served.the-variants as served
+use Rattle.host.specs.Answers.{headFrom, headNumbers, resultOf, Told, toldAs, changeTold, changedAs, changeBy, changeAnswer, viewedAs, viewAs, viewAnswer, openedAs, openBy, openAnswer, serveTold, servedAs, serveBy, serveAnswer}
 
 -- ---- a refusal's number
 
@@ -127,3 +129,26 @@ pub open-given : (u r : ℕ) (l : List ℕ) (t : Tables) (list : List ℕ) {h : 
     → showing w d ≡ openCall u r h t list → w ≡ opened.Chains i o → openedAs 0 d i o ≡ openAnswer u r l t list
 unfolding openBy
 open-given u r l t list {d = d} n eh p is = sym (ap (λ (x : Opened). openBy x d) is) ∙ open-by u r l t list n eh p
+
+-- ---- serve
+
+pub all-refused : {s : Served} (l : List ℕ) {n : Refusal} {r : ℕ} → s ≡ served.No n → r ≡ resultOf n → toldAs r l 0 ≡ serveTold s l
+unfolding serveTold
+all-refused l is er = ap (λ (x : ℕ). toldAs x l 0) er ∙ sym (ap (λ (x : Served). serveTold x l) is)
+
+pub all-done : {s : Served} (l : List ℕ) {h : Head} {n : ℕ} {m : List ℕ} → s ≡ served.Done h n → m ≡ stored 0 (headNumbers h) l → toldAs 0 m n ≡ serveTold s l
+unfolding serveTold
+all-done l {n = n} is em = ap (λ (x : List ℕ). toldAs 0 x n) em ∙ sym (ap (λ (x : Served). serveTold x l) is)
+
+pub serve-short : (requests l : List ℕ) (t : Tables) (answers list : List ℕ) → length l < 7 → servedAs 13 l t answers list 0 ≡ serveAnswer requests l t answers list
+unfolding serveAnswer
+serve-short requests l t answers list n = rw (lt-ltb (length l) 7 n)
+
+pub serve-told : (requests l : List ℕ) (t : Tables) (answers list : List ℕ) {h : Head} {s : Served} {u : Tables} {given rows : List ℕ} {r : ℕ} {m : List ℕ} {k : ℕ}
+    → 7 ≤ length l → h ≡ headFrom l → serving s u given rows ≡ serveCall requests h t answers list → toldAs r m k ≡ serveTold s l
+    → servedAs r m u given rows k ≡ serveAnswer requests l t answers list
+unfolding serveAnswer serveBy
+serve-told requests l t answers list {u = u} {given = given} {rows = rows} n eh p e =
+    rw (le-ltb (length l) 7 n)
+    (ap (λ (x : Told). servedAs (x .result) (x .head) u given rows (x .count)) e
+    ∙ ap (λ (x : Service). serveBy x l) (p ∙ ap (λ (x : Head). serveCall requests x t answers list) eh))

@@ -9,7 +9,7 @@ use lib.ListN.{length, getD}
 use Rattle.rows.specs.Number.{stored}
 use Rattle.rules.specs.Bytes.{Tables, bookIn, head, headIn, start}
 use Rattle.rules.specs.Refusals.{number, viewNumber, viewTold, common, verdict, Request}
-use Rattle.rules.specs.Calls.{Part, sectionCall, Load, readCall, Write, writeCall, Change, change, viewCall, Shown, openCall}
+use Rattle.rules.specs.Calls.{Part, sectionCall, Load, readCall, Write, writeCall, Change, change, viewCall, Shown, openCall, Service, serveCall}
 use Rattle.rules.specs.declared.Head.{Head}
 use Rattle.rules.specs.declared.Refusal.{Refusal}
 use Rattle.rules.specs.declared.Changed.{Changed}
@@ -18,6 +18,8 @@ use Rattle.rules.specs.declared.Viewed.{Viewed}
 use Rattle.rules.specs.declared.Viewed.the-variants as viewed
 use Rattle.rules.specs.declared.Opened.{Opened}
 use Rattle.rules.specs.declared.Opened.the-variants as opened
+use Rattle.rules.specs.declared.Served.{Served}
+use Rattle.rules.specs.declared.Served.the-variants as served
 use Rattle.rules.specs.declared.Loaded.{Loaded}
 use Rattle.rules.specs.declared.Loaded.the-variants as loaded
 use Rattle.rules.specs.declared.Stored.{Stored}
@@ -154,3 +156,24 @@ unfoldable pub openAnswer : ℕ → ℕ → List ℕ → Tables → List ℕ →
 openAnswer u r l t list =
     let c = openCall u r (headFrom l) t list in
     cond (ltb (length l) 7) (openedAs 13 list 0 0) (openBy (c .answer) (c .list))
+
+-- several requests: how many order rows all of them used
+unfoldable pub serveTold : Served → List ℕ → Told
+serveTold (served.No r) l = toldAs (resultOf r) l 0
+serveTold (served.Done h n) l = toldAs 0 (stored 0 (headNumbers h) l) n
+
+pub record Serves : Type 0 where
+  pub told : Told
+  pub tables : Tables
+  pub answers : List ℕ
+  pub orders : List ℕ
+
+abbrev pub servedAs : ℕ → List ℕ → Tables → List ℕ → List ℕ → ℕ → Serves
+servedAs r l t answers list n = record { told = toldAs r l n; tables = t; answers = answers; orders = list }
+
+unfoldable pub serveBy : Service → List ℕ → Serves
+serveBy c l = record { told = serveTold (c .answer) l; tables = c .tables; answers = c .answers; orders = c .orders }
+
+unfoldable pub serveAnswer : List ℕ → List ℕ → Tables → List ℕ → List ℕ → Serves
+serveAnswer requests l t answers list =
+    cond (ltb (length l) 7) (servedAs 13 l t answers list 0) (serveBy (serveCall requests (headFrom l) t answers list) l)

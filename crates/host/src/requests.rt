@@ -2,16 +2,16 @@
 // The five tables are iv, it, ov, ot, rs: inner vertices and tokens, outer vertices and tokens, resources. Order rows are three numbers each.
 use crate::head_of;
 use crate::put_head;
+use plan::Request;
 use policy::open::open;
 use policy::open::view;
-use policy::requests::grant;
-use policy::requests::insert;
-use policy::requests::join;
-use policy::requests::revoke;
+use policy::requests::change;
+use policy::serve::serve;
 use rules::Changed;
 use rules::Opened;
 use rules::Refusal;
 use rules::Resource;
+use rules::Served;
 use rules::Viewed;
 use rules::refusal_number;
 use rules::view_number;
@@ -22,7 +22,8 @@ ghost use Prim.Native.Nat.{_≤_};
 ghost use lib.ListN.{length};
 ghost use Rattle.rules.specs.Bytes.{tables};
 ghost use Rattle.rules.specs.Refusals.{joins, inserts, grants, revokes};
-ghost use Rattle.host.specs.Answers.{resultOf, toldAs, changeTold, changedAs, changeAnswer, viewedAs, viewAnswer, openedAs, openAnswer};
+ghost use Rattle.plan.specs.Judge.{requestOf};
+ghost use Rattle.host.specs.Answers.{resultOf, toldAs, changeTold, changedAs, changeAnswer, viewedAs, viewAnswer, openedAs, openAnswer, serveTold, servedAs, serveAnswer};
 
 // The number of a refusal; with 11 also the view.
 fn result_of(n: Refusal) -> u16
@@ -52,6 +53,28 @@ fn told(c: Changed, head: &mut [u16], count: &mut u16) -> u16
     }
 }
 
+// Any of the four below.
+fn changed(
+    head: &mut [u16],
+    iv: &mut [u8],
+    it: &mut [u8],
+    ov: &mut [u8],
+    ot: &mut [u8],
+    rs: &mut [u8],
+    orders: &mut [u16],
+    count: &mut u16,
+    q: Request,
+) -> u16
+    ensures { λ k. ⌜ changedAs k (now (head .exit)) (tables (now (iv .exit)) (now (it .exit)) (now (ov .exit)) (now (ot .exit)) (now (rs .exit))) (now (orders .exit)) (now (count .exit)) ≡ changeAnswer (requestOf q) (now (head .entry)) (tables (now (iv .entry)) (now (it .entry)) (now (ov .entry)) (now (ot .entry)) (now (rs .entry))) (now (orders .entry)) ⌝ }
+{
+    if head.len() < 7 {
+        *count = 0;
+        return 13;
+    }
+    let c = change(head_of(head), iv, it, ov, ot, rs, orders, q);
+    told(c, head, count)
+}
+
 #[no_mangle]
 pub extern "C" fn fenstubble_join(
     head: &mut [u16],
@@ -65,12 +88,7 @@ pub extern "C" fn fenstubble_join(
 ) -> u16
     ensures { λ k. ⌜ changedAs k (now (head .exit)) (tables (now (iv .exit)) (now (it .exit)) (now (ov .exit)) (now (ot .exit)) (now (rs .exit))) (now (orders .exit)) (now (count .exit)) ≡ changeAnswer joins (now (head .entry)) (tables (now (iv .entry)) (now (it .entry)) (now (ov .entry)) (now (ot .entry)) (now (rs .entry))) (now (orders .entry)) ⌝ }
 {
-    if head.len() < 7 {
-        *count = 0;
-        return 13;
-    }
-    let c = join(head_of(head), iv, it, ov, ot, rs, orders);
-    told(c, head, count)
+    changed(head, iv, it, ov, ot, rs, orders, count, Request::Join)
 }
 
 #[no_mangle]
@@ -87,12 +105,17 @@ pub extern "C" fn fenstubble_insert(
 ) -> u16
     ensures { λ k. ⌜ changedAs k (now (head .exit)) (tables (now (iv .exit)) (now (it .exit)) (now (ov .exit)) (now (ot .exit)) (now (rs .exit))) (now (orders .exit)) (now (count .exit)) ≡ changeAnswer (inserts l) (now (head .entry)) (tables (now (iv .entry)) (now (it .entry)) (now (ov .entry)) (now (ot .entry)) (now (rs .entry))) (now (orders .entry)) ⌝ }
 {
-    if head.len() < 7 {
-        *count = 0;
-        return 13;
-    }
-    let c = insert(head_of(head), iv, it, ov, ot, rs, orders, Users(l));
-    told(c, head, count)
+    changed(
+        head,
+        iv,
+        it,
+        ov,
+        ot,
+        rs,
+        orders,
+        count,
+        Request::Insert(Users(l)),
+    )
 }
 
 #[no_mangle]
@@ -110,22 +133,17 @@ pub extern "C" fn fenstubble_grant(
 ) -> u16
     ensures { λ k. ⌜ changedAs k (now (head .exit)) (tables (now (iv .exit)) (now (it .exit)) (now (ov .exit)) (now (ot .exit)) (now (rs .exit))) (now (orders .exit)) (now (count .exit)) ≡ changeAnswer (grants r u) (now (head .entry)) (tables (now (iv .entry)) (now (it .entry)) (now (ov .entry)) (now (ot .entry)) (now (rs .entry))) (now (orders .entry)) ⌝ }
 {
-    if head.len() < 7 {
-        *count = 0;
-        return 13;
-    }
-    let c = grant(
-        head_of(head),
+    changed(
+        head,
         iv,
         it,
         ov,
         ot,
         rs,
         orders,
-        Resource(r),
-        User(u),
-    );
-    told(c, head, count)
+        count,
+        Request::Grant(Resource(r), User(u)),
+    )
 }
 
 #[no_mangle]
@@ -143,22 +161,17 @@ pub extern "C" fn fenstubble_revoke(
 ) -> u16
     ensures { λ k. ⌜ changedAs k (now (head .exit)) (tables (now (iv .exit)) (now (it .exit)) (now (ov .exit)) (now (ot .exit)) (now (rs .exit))) (now (orders .exit)) (now (count .exit)) ≡ changeAnswer (revokes r u) (now (head .entry)) (tables (now (iv .entry)) (now (it .entry)) (now (ov .entry)) (now (ot .entry)) (now (rs .entry))) (now (orders .entry)) ⌝ }
 {
-    if head.len() < 7 {
-        *count = 0;
-        return 13;
-    }
-    let c = revoke(
-        head_of(head),
+    changed(
+        head,
         iv,
         it,
         ov,
         ot,
         rs,
         orders,
-        Resource(r),
-        User(u),
-    );
-    told(c, head, count)
+        count,
+        Request::Revoke(Resource(r), User(u)),
+    )
 }
 
 #[no_mangle]
@@ -229,4 +242,45 @@ pub extern "C" fn fenstubble_open(
             0
         }
     }
+}
+
+// What serving several requests answers, in numbers.
+fn told_all(s: Served, head: &mut [u16], used: &mut usize) -> u16
+    requires { ⌜ 7 ≤ length (now head) ⌝ }
+    ensures { λ r. ⌜ toldAs r (now (head .exit)) (now (used .exit)) ≡ serveTold s (now (head .entry)) ⌝ }
+{
+    match s {
+        Served::No(n) => {
+            *used = 0;
+            result_of(n)
+        }
+        Served::Done(h, n) => {
+            put_head(head, h);
+            *used = n;
+            0
+        }
+    }
+}
+
+#[no_mangle]
+pub extern "C" fn fenstubble_serve(
+    head: &mut [u16],
+    iv: &mut [u8],
+    it: &mut [u8],
+    ov: &mut [u8],
+    ot: &mut [u8],
+    rs: &mut [u8],
+    requests: &[u64],
+    answers: &mut [u16],
+    orders: &mut [u16],
+    used: &mut usize,
+) -> u16
+    ensures { λ k. ⌜ servedAs k (now (head .exit)) (tables (now (iv .exit)) (now (it .exit)) (now (ov .exit)) (now (ot .exit)) (now (rs .exit))) (now (answers .exit)) (now (orders .exit)) (now (used .exit)) ≡ serveAnswer (now (requests .entry)) (now (head .entry)) (tables (now (iv .entry)) (now (it .entry)) (now (ov .entry)) (now (ot .entry)) (now (rs .entry))) (now (answers .entry)) (now (orders .entry)) ⌝ }
+{
+    if head.len() < 7 {
+        *used = 0;
+        return 13;
+    }
+    let s = serve(head_of(head), iv, it, ov, ot, rs, requests, answers, orders);
+    told_all(s, head, used)
 }

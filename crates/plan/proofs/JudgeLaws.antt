@@ -24,7 +24,7 @@ use Rattle.rules.specs.declared.Head.{Head}
 use Rattle.rules.specs.declared.Refusal.{Refusal}
 use Rattle.rules.specs.declared.Refusal.the-variants.{NoSuch, EmptyList, UsersFull, ResourcesFull, Listed, NotListed, ShortList}
 use Rattle.theorems.specs.Plan.{newVertices, newTokens, insertFree, agreed, waits, waiters, ifAny, grantedList, revokedList}
-use Rattle.theorems.proofs.RequestLaws.{Rows, such}
+use Rattle.theorems.proofs.RequestLaws.{such, verdict-first, verdict-passed}
 use Rattle.theorems.proofs.AccessLaws.{users-of, work-access}
 use Rattle.theorems.proofs.CountLaws.{withVertex-vertices, withVertex-tokens}
 use Rattle.theorems.proofs.NeighbourLaws.{none-waits, none-waits-full}
@@ -42,18 +42,6 @@ use Rattle.plan.specs.Judge.{Ready, plan, planOf, judgedBy, judged, limi
 use Rattle.plan.proofs.ReadyLaws.{bookOf, Sizes, sizes, users-count, mode-count, resources-count, outer-count, inner-tokens-count, outer-tokens-count, inner-new, row-read, such-told}
 
 -- ---- the verdict
-
-verdict-passed : (xs ys : Rows) → verdict xs ≡ none → verdict (xs ++ ys) ≡ verdict ys
-unfolding verdict
-verdict-passed [] ys e = refl
-verdict-passed ((r, true) ∷ xs) ys e = cc
-verdict-passed ((r, false) ∷ xs) ys e = verdict-passed xs ys e
-
-pub verdict-first : (xs ys : Rows) {r : Refusal} → verdict xs ≡ some r → verdict (xs ++ ys) ≡ some r
-unfolding verdict
-verdict-first [] ys e = cc
-verdict-first ((r, true) ∷ xs) ys e = e
-verdict-first ((r, false) ∷ xs) ys e = verdict-first xs ys e
 
 -- one of 1 to 6
 pub judged-no : (q : Request) (b : Book) (room : ℕ) {x : Refusal} → verdict (own q b) ≡ some x → No x ≡ judged q b room

@@ -1,2 +1,4 @@
 pub mod RequestCalls
 pub mod OpenLaws
+pub mod ServeCalls
+pub mod ServeLaws

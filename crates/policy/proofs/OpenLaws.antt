@@ -37,7 +37,7 @@ use Rattle.theorems.proofs.RuleLaws.{Rules, layered-rules}
 use Rattle.theorems.proofs.SoundLaws.{sound-kept}
 use Rattle.theorems.proofs.LockLaws.{Place}
 use Rattle.theorems.proofs.RevokeLaws.{member}
-use Rattle.theorems.proofs.RequestLaws.{Rows, verdict-none, common-none, common-passed, such}
+use Rattle.theorems.proofs.RequestLaws.{Rows, verdict-none, common-none, common-passed, such, verdict-first}
 use Rattle.theorems.proofs.KnowsLaws.{inner-access, outer-main}
 use Rattle.theorems.proofs.ChainLaws.{direct-row}
 use Rattle.theorems.proofs.ViewLaws.{view-open}
@@ -58,7 +58,6 @@ use Rattle.policy.specs.declared.open.Openable.{Openable}
 use Rattle.policy.specs.declared.open.Openable.the-variants.{Go, No}
 use Rattle.plan.proofs.ReadyLaws.{layered-laid, bookOf, Sizes, sizes, resources-count, outer-count, inner-tokens-count, users-count, inner-layer, row-read, such-told, inner-laid, row-inner}
 use Rattle.plan.proofs.PartLaws.{there}
-use Rattle.plan.proofs.JudgeLaws.{verdict-first}
 
 -- ---- one chain, in its own layer
 
@@ -345,7 +344,7 @@ module _ (b : Book) (u r room : ℕ) where
 
 -- the answer of the check
 module _ (h : Head) (t : Tables) {k : Checked} (ek : k ≡ checked h t) where
-  checked-no : {n : Refusal} → k ≡ checks.No n → verdict (common t (bookIn h t)) ≡ some n
+  pub checked-no : {n : Refusal} → k ≡ checks.No n → verdict (common t (bookIn h t)) ≡ some n
   unfolding checked checkedBy
   checked-no {n} e = go (verdict (common t (bookIn h t))) (sym ek ∙ e)
     where

@@ -2,18 +2,16 @@
 -- Assumes nothing.
 use Prim.Native.Nat.{ℕ}
 use mathlib.Core.Path.{_≡_, refl, sym, ap, _∙_}
-use mathlib.Core.Bool.{true, false}
 use mathlib.Core.List.{List, [], _++_, append-assoc}
 use mathlib.Core.Option.{Option, some, none}
 use Rattle.rules.specs.Sound.{sound}
 use Rattle.rules.specs.Bytes.{Tables, bookIn}
-use Rattle.rules.specs.Refusals.{Request, work, own, limits, verdict, common, short, refusal}
-use Rattle.rules.specs.Calls.{Change, change, changeBy, changing, rowsLent}
+use Rattle.rules.specs.Refusals.{Request, work, own, limits, verdict, common, refusal}
+use Rattle.rules.specs.Calls.{change, changeBy, changing, rowsLent}
 use Rattle.rules.specs.declared.Head.{Head}
 use Rattle.rules.specs.declared.Refusal.{Refusal}
 use Rattle.rules.specs.declared.Changed.the-variants as changed
-use Rattle.theorems.proofs.RequestLaws.{common-none, common-passed}
-use Rattle.plan.proofs.JudgeLaws.{verdict-first}
+use Rattle.theorems.proofs.RequestLaws.{common-none, common-passed, verdict-first}
 use Rattle.sound.specs.Check.{checked, checkedBy}
 use Rattle.sound.specs.declared.Checked.{Checked}
 use Rattle.sound.specs.declared.Checked.the-variants as checks

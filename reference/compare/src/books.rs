@@ -8,10 +8,12 @@ use fenstubble_reference::generate::{self, Random, Shape};
 use fenstubble_reference::sets::UserSet;
 use fenstubble_reference::sound::{broken_rules, Rule};
 
-use crate::compare::{Call, Tally};
+use crate::compare::Tally;
 use crate::limits;
 use crate::memory::{Filler, Lent, Memory};
 use crate::report::{random_of, Bounds, Report, Session};
+use crate::side::Call;
+use crate::worlds::{large, LARGEST};
 
 /// What was compared.
 #[derive(Clone, Debug, Default)]
@@ -203,6 +205,7 @@ impl Books {
                 self.book(random, &limits::book(mode, &counts))?;
             }
         }
+        self.book(random, large(&LARGEST).book.book())?;
         for base in [sample(Mode::Delta), sample(Mode::Full)] {
             for field in 0..6 {
                 for value in head_values(&base, field) {

@@ -4,143 +4,11 @@ use std::collections::BTreeMap;
 use std::fmt;
 
 use fenstubble_reference::refusal::Refusal;
-#[cfg(feature = "requests")]
-use fenstubble_reference::refusal::View;
-#[cfg(feature = "requests")]
-use fenstubble_reference::sets::UserSet;
 
 use crate::engine::Engine;
-use crate::memory::{tables, Cell, Lent, Memory, Place, TABLES};
+use crate::memory::{Cell, Lent, Memory, Place, TABLES};
 use crate::model::Model;
-use crate::side::{Answer, Side};
-
-/// A call with its numbers.
-#[derive(Clone, Copy, Debug, PartialEq, Eq)]
-pub enum Call {
-    /// Check the tables.
-    Check,
-    /// Show that section of the book's bytes.
-    Section(usize),
-    /// Read the book's bytes into the tables.
-    Read,
-    /// Write the tables' book to the buffer.
-    Write,
-    /// Join.
-    #[cfg(feature = "requests")]
-    Join,
-    /// Insert a list.
-    #[cfg(feature = "requests")]
-    Insert(u64),
-    /// Grant a resource to a user.
-    #[cfg(feature = "requests")]
-    Grant(u16, u16),
-    /// Revoke a resource from a user.
-    #[cfg(feature = "requests")]
-    Revoke(u16, u16),
-    /// The view of a user on a resource.
-    #[cfg(feature = "requests")]
-    View(u16, u16),
-    /// How a user opens a resource.
-    #[cfg(feature = "requests")]
-    Open(u16, u16),
-}
-
-impl Call {
-    /// The call's name.
-    pub fn name(self) -> &'static str {
-        match self {
-            Call::Check => "check",
-            Call::Section(_) => "section",
-            Call::Read => "read",
-            Call::Write => "write",
-            #[cfg(feature = "requests")]
-            Call::Join => "join",
-            #[cfg(feature = "requests")]
-            Call::Insert(_) => "insert",
-            #[cfg(feature = "requests")]
-            Call::Grant(..) => "grant",
-            #[cfg(feature = "requests")]
-            Call::Revoke(..) => "revoke",
-            #[cfg(feature = "requests")]
-            Call::View(..) => "view",
-            #[cfg(feature = "requests")]
-            Call::Open(..) => "open",
-        }
-    }
-}
-
-impl fmt::Display for Call {
-    /// As a line of the request program, where there is one.
-    fn fmt(&self, f: &mut fmt::Formatter<'_>) -> fmt::Result {
-        write!(f, "{}", self.name())?;
-        match *self {
-            Call::Section(k) => write!(f, " {k}"),
-            #[cfg(feature = "requests")]
-            Call::Insert(list) => UserSet(list)
-                .users()
-                .try_for_each(|user| write!(f, " {}", user.0)),
-            #[cfg(feature = "requests")]
-            Call::Grant(a, b) | Call::Revoke(a, b) | Call::View(a, b) | Call::Open(a, b) => {
-                write!(f, " {a} {b}")
-            }
-            _ => Ok(()),
-        }
-    }
-}
-
-/// What an accepted call gives besides what it writes.
-#[derive(Clone, Copy, Debug, PartialEq, Eq)]
-pub enum Given {
-    /// Nothing.
-    Nothing,
-    /// A stretch of the book's bytes: start and length.
-    Stretch(usize, usize),
-    /// How many bytes were written.
-    Length(usize),
-    /// How many order rows were given.
-    #[cfg(feature = "requests")]
-    Orders(u16),
-    /// The view.
-    #[cfg(feature = "requests")]
-    View(View),
-    /// How many rows the two chains have.
-    #[cfg(feature = "requests")]
-    Chains(u16, u16),
-}
-
-/// Makes the call on one side.
-fn make<S: Side>(call: Call, lent: &mut Lent) -> Answer<Given> {
-    let head = lent.head.lend();
-    let tables = &mut tables(&mut lent.tables);
-    #[cfg(feature = "requests")]
-    let list = lent.list.lend();
-    match call {
-        Call::Check => S::check(head, tables).map(|done| done.map(|()| Given::Nothing)),
-        Call::Section(k) => S::section(lent.book.lend(), k)
-            .map(|done| done.map(|(start, length)| Given::Stretch(start, length))),
-        Call::Read => {
-            S::read(lent.book.lend(), head, tables).map(|done| done.map(|()| Given::Nothing))
-        }
-        Call::Write => {
-            S::write(head, tables, lent.buffer.lend()).map(|done| done.map(Given::Length))
-        }
-        #[cfg(feature = "requests")]
-        Call::Join => S::join(head, tables, list).map(|done| done.map(Given::Orders)),
-        #[cfg(feature = "requests")]
-        Call::Insert(set) => S::insert(head, tables, set, list).map(|done| done.map(Given::Orders)),
-        #[cfg(feature = "requests")]
-        Call::Grant(r, u) => S::grant(head, tables, r, u, list).map(|done| done.map(Given::Orders)),
-        #[cfg(feature = "requests")]
-        Call::Revoke(r, u) => {
-            S::revoke(head, tables, r, u, list).map(|done| done.map(Given::Orders))
-        }
-        #[cfg(feature = "requests")]
-        Call::View(u, r) => S::view(head, tables, u, r).map(|done| done.map(Given::View)),
-        #[cfg(feature = "requests")]
-        Call::Open(u, r) => S::open(head, tables, u, r, list)
-            .map(|done| done.map(|(inner, outer)| Given::Chains(inner, outer))),
-    }
-}
+use crate::side::{Answer, Call, Given, Side};
 
 /// A call that both sides answered alike.
 #[derive(Clone, Debug)]
@@ -174,8 +42,8 @@ pub struct Difference {
 pub fn compare(call: Call, lent: &Lent) -> Result<Done, Difference> {
     let mut by_engine = lent.clone();
     let mut by_model = lent.clone();
-    let engine = make::<Engine>(call, &mut by_engine);
-    let model = make::<Model>(call, &mut by_model);
+    let engine = Engine::make(call, &mut by_engine.lend());
+    let model = Model::make(call, &mut by_model.lend());
     match (engine, model) {
         (Ok(engine), Ok(model)) if engine == model && by_engine == by_model => Ok(Done {
             answer: model,
@@ -187,7 +55,7 @@ pub fn compare(call: Call, lent: &Lent) -> Result<Done, Difference> {
                 text += &format!("engine {}, model {}\n", told(&engine), told(&model));
             }
             text += &differences(&by_engine, &by_model, lent);
-            let number = |answer: Answer<Given>| {
+            let number = |answer: Answer| {
                 let answer = answer.ok()?;
                 Some(answer.err().map_or(0, |no| no.number))
             };
@@ -199,7 +67,7 @@ pub fn compare(call: Call, lent: &Lent) -> Result<Done, Difference> {
     }
 }
 
-fn told(answer: &Answer<Given>) -> String {
+fn told(answer: &Answer) -> String {
     match answer {
         Ok(Ok(given)) => format!("{given:?}"),
         Ok(Err(no)) => no.to_string(),
@@ -224,6 +92,18 @@ fn differences(engine: &Lent, model: &Lent, before: &Lent) -> String {
     text += &difference("the book's bytes", &engine.book, &model.book, &before.book);
     text += &difference("the buffer", &engine.buffer, &model.buffer, &before.buffer);
     text += &difference("the list", &engine.list, &model.list, &before.list);
+    text += &difference(
+        "the requests",
+        &engine.requests,
+        &model.requests,
+        &before.requests,
+    );
+    text += &difference(
+        "the answers",
+        &engine.answers,
+        &model.answers,
+        &before.answers,
+    );
     text
 }
 
@@ -269,6 +149,13 @@ impl Tally {
             .map_or(0, |answers| answers[usize::from(number).min(13)])
     }
 
+    /// How many calls of that name there were.
+    pub fn calls_of(&self, name: &str) -> usize {
+        self.answers
+            .get(name)
+            .map_or(0, |answers| answers.iter().sum())
+    }
+
     /// How many calls there were.
     pub fn calls(&self) -> usize {
         self.answers.values().flatten().sum()
@@ -292,12 +179,11 @@ impl fmt::Display for Tally {
 
 /// How many numbers of a list the answer takes, as the model has it; 0 for a
 /// call that is refused or takes none.
-#[cfg(feature = "requests")]
 pub fn numbers_needed(call: Call, lent: &Lent) -> usize {
     // More than the orders of any request.
     let mut ample = lent.clone();
     ample.list = Memory::of(&[0; 3 * 400]);
-    match make::<Model>(call, &mut ample) {
+    match Model::make(call, &mut ample.lend()) {
         Ok(Ok(Given::Orders(rows))) => usize::from(rows) * 3,
         Ok(Ok(Given::Chains(inner, outer))) => usize::from(inner) + usize::from(outer),
         _ => 0,

@@ -1,5 +1,5 @@
-//! The engine: the C interface of `include/fenstubble.h`, and safe functions
-//! over slices with the model's types.
+//! The engine: the C interface of `include/fenstubble.h`, made safe over
+//! slices.
 //!
 //! Everything is lent as writable memory, also what a call only reads: so a
 //! write where none belongs can be seen and is not undefined.
@@ -8,92 +8,55 @@
 
 use std::fmt::Debug;
 
-use fenstubble_reference::lent::Tables;
 use fenstubble_reference::refusal::{Refusal, View};
 
-use crate::side::{Answer, Odd, Side};
+use crate::side::{Answer, Call, Given, Lending, Odd, Side};
 
 /// The declarations, in the order and the words of the header: nothing checks
 /// them against the library.
-#[rustfmt::skip]
 mod c {
-    extern "C" {
-        pub fn fenstubble_check(
-            head: *const u16, head_len: usize,
-            inner_vertices: *const u8, inner_vertices_len: usize, inner_tokens: *const u8, inner_tokens_len: usize,
-            outer_vertices: *const u8, outer_vertices_len: usize, outer_tokens: *const u8, outer_tokens_len: usize,
-            resources: *const u8, resources_len: usize,
-        ) -> u16;
-
-        pub fn fenstubble_section(
-            book: *const u8, book_len: usize, k: usize, start: *mut usize, length: *mut usize,
-        ) -> u16;
-
-        pub fn fenstubble_read(
-            book: *const u8, book_len: usize,
-            head: *mut u16, head_len: usize,
-            inner_vertices: *mut u8, inner_vertices_len: usize, inner_tokens: *mut u8, inner_tokens_len: usize,
-            outer_vertices: *mut u8, outer_vertices_len: usize, outer_tokens: *mut u8, outer_tokens_len: usize,
-            resources: *mut u8, resources_len: usize,
-        ) -> u16;
-
-        pub fn fenstubble_write(
-            head: *const u16, head_len: usize,
-            inner_vertices: *const u8, inner_vertices_len: usize, inner_tokens: *const u8, inner_tokens_len: usize,
-            outer_vertices: *const u8, outer_vertices_len: usize, outer_tokens: *const u8, outer_tokens_len: usize,
-            resources: *const u8, resources_len: usize,
-            buffer: *mut u8, buffer_len: usize, length: *mut usize,
-        ) -> u16;
+    /// Declares calls whose five tables, all `const` or all `mut`, stand
+    /// between the arguments before them and those after.
+    macro_rules! declare {
+        ($(fn $name:ident($($before:ident: $b:ty),*; $pointer:tt tables; $($after:ident: $a:ty),*);)*) => {
+            extern "C" {
+                $(pub fn $name(
+                    $($before: $b,)*
+                    inner_vertices: *$pointer u8, inner_vertices_len: usize,
+                    inner_tokens: *$pointer u8, inner_tokens_len: usize,
+                    outer_vertices: *$pointer u8, outer_vertices_len: usize,
+                    outer_tokens: *$pointer u8, outer_tokens_len: usize,
+                    resources: *$pointer u8, resources_len: usize,
+                    $($after: $a),*
+                ) -> u16;)*
+            }
+        };
     }
 
-    #[cfg(feature = "requests")]
+    declare! {
+        fn fenstubble_check(head: *const u16, head_len: usize; const tables;);
+        fn fenstubble_read(book: *const u8, book_len: usize, head: *mut u16, head_len: usize; mut tables;);
+        fn fenstubble_write(head: *const u16, head_len: usize; const tables; buffer: *mut u8, buffer_len: usize, length: *mut usize);
+        fn fenstubble_join(head: *mut u16, head_len: usize; mut tables; orders: *mut u16, orders_len: usize, count: *mut u16);
+        fn fenstubble_insert(head: *mut u16, head_len: usize; mut tables; orders: *mut u16, orders_len: usize, count: *mut u16, list: u64);
+        fn fenstubble_grant(head: *mut u16, head_len: usize; mut tables; orders: *mut u16, orders_len: usize, count: *mut u16, resource: u16, user: u16);
+        fn fenstubble_revoke(head: *mut u16, head_len: usize; mut tables; orders: *mut u16, orders_len: usize, count: *mut u16, resource: u16, user: u16);
+        fn fenstubble_view(head: *const u16, head_len: usize; const tables; user: u16, resource: u16, view: *mut u16);
+        fn fenstubble_open(head: *const u16, head_len: usize; const tables; user: u16, resource: u16, list: *mut u16, list_len: usize, inner: *mut u16, outer: *mut u16);
+    }
+
+    #[cfg(feature = "serve")]
+    declare! {
+        fn fenstubble_serve(head: *mut u16, head_len: usize; mut tables; requests: *const u64, requests_len: usize, answers: *mut u16, answers_len: usize, orders: *mut u16, orders_len: usize, used: *mut usize);
+    }
+
     extern "C" {
-        pub fn fenstubble_join(
-            head: *mut u16, head_len: usize,
-            inner_vertices: *mut u8, inner_vertices_len: usize, inner_tokens: *mut u8, inner_tokens_len: usize,
-            outer_vertices: *mut u8, outer_vertices_len: usize, outer_tokens: *mut u8, outer_tokens_len: usize,
-            resources: *mut u8, resources_len: usize,
-            orders: *mut u16, orders_len: usize, count: *mut u16,
-        ) -> u16;
-
-        pub fn fenstubble_insert(
-            head: *mut u16, head_len: usize,
-            inner_vertices: *mut u8, inner_vertices_len: usize, inner_tokens: *mut u8, inner_tokens_len: usize,
-            outer_vertices: *mut u8, outer_vertices_len: usize, outer_tokens: *mut u8, outer_tokens_len: usize,
-            resources: *mut u8, resources_len: usize,
-            orders: *mut u16, orders_len: usize, count: *mut u16, list: u64,
-        ) -> u16;
-
-        pub fn fenstubble_grant(
-            head: *mut u16, head_len: usize,
-            inner_vertices: *mut u8, inner_vertices_len: usize, inner_tokens: *mut u8, inner_tokens_len: usize,
-            outer_vertices: *mut u8, outer_vertices_len: usize, outer_tokens: *mut u8, outer_tokens_len: usize,
-            resources: *mut u8, resources_len: usize,
-            orders: *mut u16, orders_len: usize, count: *mut u16, resource: u16, user: u16,
-        ) -> u16;
-
-        pub fn fenstubble_revoke(
-            head: *mut u16, head_len: usize,
-            inner_vertices: *mut u8, inner_vertices_len: usize, inner_tokens: *mut u8, inner_tokens_len: usize,
-            outer_vertices: *mut u8, outer_vertices_len: usize, outer_tokens: *mut u8, outer_tokens_len: usize,
-            resources: *mut u8, resources_len: usize,
-            orders: *mut u16, orders_len: usize, count: *mut u16, resource: u16, user: u16,
-        ) -> u16;
-
-        pub fn fenstubble_view(
-            head: *const u16, head_len: usize,
-            inner_vertices: *const u8, inner_vertices_len: usize, inner_tokens: *const u8, inner_tokens_len: usize,
-            outer_vertices: *const u8, outer_vertices_len: usize, outer_tokens: *const u8, outer_tokens_len: usize,
-            resources: *const u8, resources_len: usize,
-            user: u16, resource: u16, view: *mut u16,
-        ) -> u16;
-
-        pub fn fenstubble_open(
-            head: *const u16, head_len: usize,
-            inner_vertices: *const u8, inner_vertices_len: usize, inner_tokens: *const u8, inner_tokens_len: usize,
-            outer_vertices: *const u8, outer_vertices_len: usize, outer_tokens: *const u8, outer_tokens_len: usize,
-            resources: *const u8, resources_len: usize,
-            user: u16, resource: u16, list: *mut u16, list_len: usize, inner: *mut u16, outer: *mut u16,
+        pub fn fenstubble_section(
+            book: *const u8,
+            book_len: usize,
+            k: usize,
+            start: *mut usize,
+            length: *mut usize,
         ) -> u16;
     }
 }
@@ -101,39 +64,85 @@ mod c {
 /// What stands in a cell before a call, so that one left alone is seen.
 const UNSET: u16 = 0xA7A7;
 
-/// Makes a C call with the five tables in their place among the arguments,
+/// Makes a C call with head and tables in their place among the arguments,
 /// each as pointer and length.
-macro_rules! with_tables {
-    ($name:ident([$($before:expr),*], $tables:ident, [$($after:expr),*])) => {
+macro_rules! c {
+    ($name:ident($($before:expr),*; $lent:ident; $($after:expr),*)) => {
         // SAFETY: each pointer and its length come from a slice that is
         // borrowed for the call and overlaps no other, each cell from a
         // local; an empty slice's pointer is aligned and not null.
         unsafe {
             c::$name(
                 $($before,)*
-                $tables.inner_vertices.as_mut_ptr(), $tables.inner_vertices.len(),
-                $tables.inner_tokens.as_mut_ptr(), $tables.inner_tokens.len(),
-                $tables.outer_vertices.as_mut_ptr(), $tables.outer_vertices.len(),
-                $tables.outer_tokens.as_mut_ptr(), $tables.outer_tokens.len(),
-                $tables.resources.as_mut_ptr(), $tables.resources.len(),
+                $lent.head.as_mut_ptr(), $lent.head.len(),
+                $lent.tables.inner_vertices.as_mut_ptr(), $lent.tables.inner_vertices.len(),
+                $lent.tables.inner_tokens.as_mut_ptr(), $lent.tables.inner_tokens.len(),
+                $lent.tables.outer_vertices.as_mut_ptr(), $lent.tables.outer_vertices.len(),
+                $lent.tables.outer_tokens.as_mut_ptr(), $lent.tables.outer_tokens.len(),
+                $lent.tables.resources.as_mut_ptr(), $lent.tables.resources.len(),
                 $($after),*
             )
         }
     };
 }
 
-/// The view with that number.
-fn view_of(number: u16) -> Option<View> {
-    [View::Open, View::SelLocked, View::BelLocked, View::Locked]
-        .get(usize::from(number))
-        .copied()
+/// The engine's side.
+#[derive(Clone, Copy, Debug)]
+pub struct Engine;
+
+impl Side for Engine {
+    fn make(call: Call, lent: &mut Lending) -> Answer {
+        let (list, list_len) = (lent.list.as_mut_ptr(), lent.list.len());
+        let (book, book_len) = (lent.book.as_mut_ptr(), lent.book.len());
+        // The cells; a call has one or two of either width.
+        let (mut a, mut b) = (UNSET, UNSET);
+        let (mut start, mut length) = (usize::from(UNSET), usize::from(UNSET));
+        let (cell, second) = (&raw mut a, &raw mut b);
+        let code = match call {
+            Call::Check => c!(fenstubble_check(; lent;)),
+            // SAFETY: as for the calls with tables.
+            Call::Section(k) => unsafe {
+                c::fenstubble_section(book, book_len, k, &raw mut start, &raw mut length)
+            },
+            Call::Read => c!(fenstubble_read(book, book_len; lent;)),
+            Call::Write => {
+                let (buffer, buffer_len) = (lent.buffer.as_mut_ptr(), lent.buffer.len());
+                c!(fenstubble_write(; lent; buffer, buffer_len, &raw mut length))
+            }
+            Call::Join => c!(fenstubble_join(; lent; list, list_len, cell)),
+            Call::Insert(set) => c!(fenstubble_insert(; lent; list, list_len, cell, set)),
+            Call::Grant(r, u) => c!(fenstubble_grant(; lent; list, list_len, cell, r, u)),
+            Call::Revoke(r, u) => c!(fenstubble_revoke(; lent; list, list_len, cell, r, u)),
+            Call::View(u, r) => c!(fenstubble_view(; lent; u, r, cell)),
+            Call::Open(u, r) => c!(fenstubble_open(; lent; u, r, list, list_len, cell, second)),
+            #[cfg(feature = "serve")]
+            Call::Serve => {
+                let (requests, requests_len) = (lent.requests.as_mut_ptr(), lent.requests.len());
+                let (answers, answers_len) = (lent.answers.as_mut_ptr(), lent.answers.len());
+                c!(fenstubble_serve(; lent; requests, requests_len, answers, answers_len, list, list_len, &raw mut length))
+            }
+            #[cfg(not(feature = "serve"))]
+            Call::Serve => unreachable!("the feature `serve` is off"),
+        };
+        match call {
+            Call::Check | Call::Read => answer(code, (), |()| Given::Nothing),
+            Call::Section(_) => answer(code, (start, length), |(a, b)| Given::Stretch(a, b)),
+            Call::Write => answer(code, length, Given::Length),
+            Call::View(..) => answer(code, a, Given::View),
+            Call::Open(..) => answer(code, (a, b), |(a, b)| Given::Chains(a, b)),
+            Call::Serve => answer(code, length, Given::Used),
+            _ => answer(code, a, Given::Orders),
+        }
+    }
 }
 
 /// The refusal with that result, if it is one a call can give.
 fn refusal_of(code: u16) -> Option<Refusal> {
     match (code % 256, code / 256) {
-        (11, 0) => None,
-        (11, view) => view_of(view).map(Refusal::closed),
+        (11, 1) => Some(Refusal::closed(View::SelLocked)),
+        (11, 2) => Some(Refusal::closed(View::BelLocked)),
+        (11, 3) => Some(Refusal::closed(View::Locked)),
+        (11, _) => None,
         (number @ 1..=13, 0) => Some(Refusal {
             number: number as u8,
             view: None,
@@ -143,160 +152,18 @@ fn refusal_of(code: u16) -> Option<Refusal> {
 }
 
 /// An answer from the result and the cells, which are 0 where it is refused.
-fn answer<T: Debug + Default + PartialEq>(code: u16, cells: T) -> Answer<T> {
+fn answer<T: Debug + Default + PartialEq>(
+    code: u16,
+    cells: T,
+    given: impl FnOnce(T) -> Given,
+) -> Answer {
     match refusal_of(code) {
-        _ if code == 0 => Ok(Ok(cells)),
+        _ if code == 0 => Ok(Ok(given(cells))),
         Some(no) if cells == T::default() => Ok(Err(no)),
         _ => Err(Odd {
             code,
             cells: format!("{cells:?}"),
         }),
-    }
-}
-
-/// The engine's side.
-#[derive(Clone, Copy, Debug)]
-pub struct Engine;
-
-impl Side for Engine {
-    fn check(head: &mut [u16], tables: &mut Tables) -> Answer<()> {
-        let code = with_tables!(fenstubble_check(
-            [head.as_mut_ptr(), head.len()],
-            tables,
-            []
-        ));
-        answer(code, ())
-    }
-
-    fn section(book: &mut [u8], k: usize) -> Answer<(usize, usize)> {
-        let (mut start, mut length) = (usize::from(UNSET), usize::from(UNSET));
-        // SAFETY: as for the calls with tables.
-        let code = unsafe {
-            c::fenstubble_section(
-                book.as_mut_ptr(),
-                book.len(),
-                k,
-                &raw mut start,
-                &raw mut length,
-            )
-        };
-        answer(code, (start, length))
-    }
-
-    fn read(book: &mut [u8], head: &mut [u16], tables: &mut Tables) -> Answer<()> {
-        let code = with_tables!(fenstubble_read(
-            [book.as_mut_ptr(), book.len(), head.as_mut_ptr(), head.len()],
-            tables,
-            []
-        ));
-        answer(code, ())
-    }
-
-    fn write(head: &mut [u16], tables: &mut Tables, buffer: &mut [u8]) -> Answer<usize> {
-        let mut length = usize::from(UNSET);
-        let code = with_tables!(fenstubble_write(
-            [head.as_mut_ptr(), head.len()],
-            tables,
-            [buffer.as_mut_ptr(), buffer.len(), &raw mut length]
-        ));
-        answer(code, length)
-    }
-
-    #[cfg(feature = "requests")]
-    fn join(head: &mut [u16], tables: &mut Tables, orders: &mut [u16]) -> Answer<u16> {
-        let mut count = UNSET;
-        let code = with_tables!(fenstubble_join(
-            [head.as_mut_ptr(), head.len()],
-            tables,
-            [orders.as_mut_ptr(), orders.len(), &raw mut count]
-        ));
-        answer(code, count)
-    }
-
-    #[cfg(feature = "requests")]
-    fn insert(head: &mut [u16], tables: &mut Tables, list: u64, orders: &mut [u16]) -> Answer<u16> {
-        let mut count = UNSET;
-        let code = with_tables!(fenstubble_insert(
-            [head.as_mut_ptr(), head.len()],
-            tables,
-            [orders.as_mut_ptr(), orders.len(), &raw mut count, list]
-        ));
-        answer(code, count)
-    }
-
-    #[cfg(feature = "requests")]
-    fn grant(
-        head: &mut [u16],
-        tables: &mut Tables,
-        r: u16,
-        u: u16,
-        orders: &mut [u16],
-    ) -> Answer<u16> {
-        let mut count = UNSET;
-        let code = with_tables!(fenstubble_grant(
-            [head.as_mut_ptr(), head.len()],
-            tables,
-            [orders.as_mut_ptr(), orders.len(), &raw mut count, r, u]
-        ));
-        answer(code, count)
-    }
-
-    #[cfg(feature = "requests")]
-    fn revoke(
-        head: &mut [u16],
-        tables: &mut Tables,
-        r: u16,
-        u: u16,
-        orders: &mut [u16],
-    ) -> Answer<u16> {
-        let mut count = UNSET;
-        let code = with_tables!(fenstubble_revoke(
-            [head.as_mut_ptr(), head.len()],
-            tables,
-            [orders.as_mut_ptr(), orders.len(), &raw mut count, r, u]
-        ));
-        answer(code, count)
-    }
-
-    #[cfg(feature = "requests")]
-    fn view(head: &mut [u16], tables: &mut Tables, u: u16, r: u16) -> Answer<View> {
-        let mut view = UNSET;
-        let code = with_tables!(fenstubble_view(
-            [head.as_mut_ptr(), head.len()],
-            tables,
-            [u, r, &raw mut view]
-        ));
-        match answer(code, view)? {
-            Ok(number) => view_of(number).map(Ok).ok_or(Odd {
-                code,
-                cells: format!("{number}"),
-            }),
-            Err(no) => Ok(Err(no)),
-        }
-    }
-
-    #[cfg(feature = "requests")]
-    fn open(
-        head: &mut [u16],
-        tables: &mut Tables,
-        u: u16,
-        r: u16,
-        list: &mut [u16],
-    ) -> Answer<(u16, u16)> {
-        let (mut inner, mut outer) = (UNSET, UNSET);
-        let code = with_tables!(fenstubble_open(
-            [head.as_mut_ptr(), head.len()],
-            tables,
-            [
-                u,
-                r,
-                list.as_mut_ptr(),
-                list.len(),
-                &raw mut inner,
-                &raw mut outer
-            ]
-        ));
-        answer(code, (inner, outer))
     }
 }
 
@@ -306,16 +173,20 @@ mod tests {
 
     #[test]
     fn results_and_cells_that_are_no_answer() {
-        assert_eq!(answer(0, 7), Ok(Ok(7)));
+        let answer = |code, cell| answer(code, cell, Given::Orders);
+        assert_eq!(answer(0, 7), Ok(Ok(Given::Orders(7))));
         assert_eq!(answer(12, 0), Ok(Err(Refusal::UNSOUND)));
-        assert_eq!(
-            answer(11 + 256, 0),
-            Ok(Err(Refusal::closed(View::SelLocked)))
-        );
+        for (view, number) in [
+            (View::SelLocked, 1),
+            (View::BelLocked, 2),
+            (View::Locked, 3),
+        ] {
+            assert_eq!(answer(11 + 256 * number, 0), Ok(Err(Refusal::closed(view))));
+        }
         for code in [11, 14, 15, 256, 12 + 256, 11 + 4 * 256, 65535] {
             assert!(answer(code, 0).is_err(), "{code}");
         }
         assert!(answer(12, 1).is_err());
-        assert!(answer(12, usize::from(UNSET)).is_err());
+        assert!(answer(12, UNSET).is_err());
     }
 }

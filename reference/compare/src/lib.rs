@@ -4,8 +4,8 @@
 //!
 //! | module | holds |
 //! |---|---|
-//! | [`side`] | the calls, as both sides have them; what a library may answer |
-//! | [`engine`] | the C interface and safe functions over it |
+//! | [`side`] | the calls, what they are lent and what they answer |
+//! | [`engine`] | the C interface, made safe |
 //! | [`model`] | the reference program's lent face in the same shape |
 //! | [`limits`] | books at, below and past each limit |
 //! | [`memory`] | lent stretches with canaries |
@@ -13,24 +13,36 @@
 //! | [`shrink`] | smaller cases that still differ |
 //! | [`report`] | a difference with its seed and smallest case; bounded runs |
 //! | [`books`] | check, section, read and write |
-//! | `requests` | join, insert, grant, revoke, view and open (feature `requests`) |
+//! | [`requests`] | join, insert, grant, revoke, view and open; serve |
+//! | [`desk`] | the engine's request program as a process |
+//! | [`lines`] | lines of scripts, fine and malformed |
+//! | [`script`] | one script on both programs; smaller scripts that still differ |
+//! | [`scripts`] | whole scripts, program against program |
+//! | [`worlds`] | the books that are measured |
+//! | [`bench`], [`clock`] | the measurements; processor time |
 //! | [`command`] | the arguments of the programs |
 //! | `standin` | a stand-in for the library, with faults (feature `self-test`) |
 
 #![deny(unsafe_code)]
 #![warn(missing_docs)]
 
+pub mod bench;
 pub mod books;
+pub mod clock;
 pub mod command;
 pub mod compare;
+pub mod desk;
 pub mod engine;
 pub mod limits;
+pub mod lines;
 pub mod memory;
 pub mod model;
 pub mod report;
-#[cfg(feature = "requests")]
 pub mod requests;
+pub mod script;
+pub mod scripts;
 pub mod shrink;
 pub mod side;
 #[cfg(feature = "self-test")]
 pub mod standin;
+pub mod worlds;

@@ -1,5 +1,6 @@
 //! Books whose counts are exactly those wished for, so that each limit can be
-//! met, missed by one, and passed by one with nothing else wrong.
+//! met, missed by one, and passed by one with nothing else wrong; and lists
+//! that fill tables.
 
 use std::collections::HashSet;
 
@@ -7,6 +8,7 @@ use fenstubble_reference::book::{
     Book, InnerToken, Mode, OuterToken, ResourceRow, KIND_DERIVATION, MAX_INNER_TOKENS,
     MAX_OUTER_GROUPS, MAX_OUTER_TOKENS, MAX_RESOURCES,
 };
+use fenstubble_reference::generate::Random;
 use fenstubble_reference::numbers::{InnerVertex, OuterVertex, User};
 use fenstubble_reference::sets::UserSet;
 
@@ -172,6 +174,15 @@ pub const LARGEST: Counts = Counts {
     outer_groups: MAX_OUTER_GROUPS,
     outer_tokens: MAX_OUTER_TOKENS,
 };
+
+/// A random set of so many of 64 users.
+pub fn of_size(random: &mut Random, size: u32) -> UserSet {
+    let mut set = UserSet::EMPTY;
+    while set.size() < size {
+        set = set.with(User::at(random.below(64)));
+    }
+    set
+}
 
 #[cfg(test)]
 mod tests {

@@ -6,6 +6,7 @@ use fenstubble_reference::generate::Random;
 use fenstubble_reference::lent::Tables;
 
 use crate::model::{head_of, numbers_of};
+use crate::side::Lending;
 
 /// Canaries before a lent stretch. An odd number, so that bytes are lent at
 /// odd addresses.
@@ -28,6 +29,12 @@ impl Cell for u8 {
 impl Cell for u16 {
     fn canary(place: usize) -> u16 {
         (place * 40_503 + 0x5B5B) as u16
+    }
+}
+
+impl Cell for u64 {
+    fn canary(place: usize) -> u64 {
+        u64::from_le_bytes([u8::canary(place); 8])
     }
 }
 
@@ -169,6 +176,10 @@ pub struct Lent {
     pub buffer: Memory<u8>,
     /// The order list, or the list of an open.
     pub list: Memory<u16>,
+    /// The request rows of a serve.
+    pub requests: Memory<u64>,
+    /// The answer rows of a serve.
+    pub answers: Memory<u16>,
 }
 
 impl Lent {
@@ -202,7 +213,7 @@ impl Lent {
         for (cell, number) in self.head.lend().iter_mut().zip(numbers_of(&book.head())) {
             *cell = number;
         }
-        let tables = self.lend_tables();
+        let tables = self.lend().tables;
         write_rows(&book.inner_vertices, tables.inner_vertices);
         write_rows(&book.inner_tokens, tables.inner_tokens);
         write_rows(&book.outer_vertices, tables.outer_vertices);
@@ -229,21 +240,25 @@ impl Lent {
         })
     }
 
-    /// Lends the tables alone.
-    pub fn lend_tables(&mut self) -> Tables<'_> {
-        tables(&mut self.tables)
-    }
-}
-
-/// Lends five tables.
-pub fn tables(all: &mut [Memory<u8>; 5]) -> Tables<'_> {
-    let [inner_vertices, inner_tokens, outer_vertices, outer_tokens, resources] = all;
-    Tables {
-        inner_vertices: inner_vertices.lend(),
-        inner_tokens: inner_tokens.lend(),
-        outer_vertices: outer_vertices.lend(),
-        outer_tokens: outer_tokens.lend(),
-        resources: resources.lend(),
+    /// Lends all of it.
+    pub fn lend(&mut self) -> Lending<'_> {
+        let [inner_vertices, inner_tokens, outer_vertices, outer_tokens, resources] =
+            self.tables.each_mut().map(Memory::lend);
+        Lending {
+            head: self.head.lend(),
+            tables: Tables {
+                inner_vertices,
+                inner_tokens,
+                outer_vertices,
+                outer_tokens,
+                resources,
+            },
+            book: self.book.lend(),
+            buffer: self.buffer.lend(),
+            list: self.list.lend(),
+            requests: self.requests.lend(),
+            answers: self.answers.lend(),
+        }
     }
 }
 

@@ -5,9 +5,10 @@ use std::time::{Duration, Instant};
 
 use fenstubble_reference::generate::Random;
 
-use crate::compare::{compare, Call, Difference, Done, Tally};
+use crate::compare::{compare, Difference, Done, Tally};
 use crate::memory::Lent;
 use crate::shrink::Case;
+use crate::side::Call;
 
 /// How much to compare.
 #[derive(Clone, Copy, Debug, PartialEq, Eq)]

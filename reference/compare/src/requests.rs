@@ -1,6 +1,6 @@
 //! Join, insert, grant, revoke, view and open: runs of requests in which both
 //! sides go on from the same state, and single ones on tables that are no
-//! sound book.
+//! sound book. With the feature `serve` also several requests in one call.
 
 use std::fmt;
 
@@ -13,11 +13,13 @@ use fenstubble_reference::requests::{List, Request};
 use fenstubble_reference::sets::UserSet;
 
 use crate::books::{longer, resize, sample, shorter, some_book};
-use crate::compare::{Call, Difference, Done, Given, Tally};
-use crate::limits::{self, Counts};
+use crate::compare::{Difference, Done, Tally};
+use crate::limits::{self, of_size, Counts};
 use crate::memory::{Filler, Lent, Memory};
 use crate::report::{random_of, Bounds, Report, Session};
 use crate::shrink::Case;
+use crate::side::{Call, Given};
+use crate::worlds::{large, LARGEST, NEARLY};
 
 /// What was compared.
 #[derive(Clone, Debug, Default)]
@@ -30,6 +32,9 @@ pub struct Summary {
     pub most_orders: u16,
     /// Longest chains of one open, inner and outer.
     pub longest: [u16; 2],
+    /// Requests that were served several in one call, by the number of the
+    /// refusal, 0 if there was none.
+    pub served: [usize; 14],
 }
 
 impl fmt::Display for Summary {
@@ -45,7 +50,11 @@ impl fmt::Display for Summary {
             f,
             "most orders of one request {}, longest chains {} inner and {} outer rows",
             self.most_orders, self.longest[0], self.longest[1]
-        )
+        )?;
+        if self.tally.calls_of("serve") > 0 {
+            writeln!(f, "served in one call, by answer: {:?}", self.served)?;
+        }
+        Ok(())
     }
 }
 
@@ -105,6 +114,9 @@ struct World {
 const NUMBERS: [u16; 14] = [
     0, 1, 62, 63, 64, 65, 254, 255, 256, 257, 32767, 32768, 65534, 65535,
 ];
+
+/// Whether the library serves several requests in one call.
+const SERVE: bool = cfg!(feature = "serve");
 
 struct Requests {
     session: Session,
@@ -468,6 +480,10 @@ impl Requests {
                 self.steps(&mut world, random, 6, 64)?;
             }
         }
+        for size in [LARGEST, NEARLY] {
+            let mut world = self.world(random, large(&size).book);
+            self.steps(&mut world, random, 40, 64)?;
+        }
         Ok(())
     }
 
@@ -495,14 +511,22 @@ impl Requests {
         for _ in 0..256 {
             grow(&mut book, &Request::Insert(UserSet::first(63).into()));
         }
-        let mut world = self.world(random, book);
-        for numbers in [0, 3 * 319, 3 * 320 - 1] {
-            self.ask(&mut world, Call::Grant(255, 63), numbers)?;
+        // The same, with the one granted already the first user's alone: the
+        // most orders that are known of.
+        let mut one_less = book.book().clone();
+        one_less.resources[255].list = UserSet::first(1);
+        one_less.resources[255].outer = one_less.own_outer_vertex(User(0));
+        for (book, rows) in [(book, 320), (sound(one_less), 324)] {
+            let mut world = self.world(random, book);
+            for numbers in [0, 3 * (rows - 1), 3 * rows - 1] {
+                self.ask(&mut world, Call::Grant(255, 63), numbers)?;
+            }
+            for r in [255, 0, 1, 254] {
+                self.step(&mut world, random, Call::Grant(r, 63))?;
+            }
+            self.steps(&mut world, random, 40, 64)?;
         }
-        for r in [255, 0, 1, 254] {
-            self.step(&mut world, random, Call::Grant(r, 63))?;
-        }
-        self.steps(&mut world, random, 40, 64)
+        Ok(())
     }
 
     /// A call that mostly is refused, also with no list at all.
@@ -558,8 +582,64 @@ impl Requests {
                 let mut world = self.world(random, sound(book));
                 self.steps(&mut world, random, 12, 64)
             }
+            33..=36 if SERVE => {
+                let shape = Shape::small(random);
+                let start = match random.below(3) {
+                    0 => SoundBook::empty(mode),
+                    1 => joined(mode, random.between(1, 64)),
+                    _ => sound(generate::book(random, &shape)),
+                };
+                let mut world = self.world(random, start);
+                (0..8).try_for_each(|_| self.several(&mut world, random))
+            }
             _ => (0..10).try_for_each(|_| self.bad_tables(random)),
         }
+    }
+
+    /// Several requests in one call, with answer rows and order rows that
+    /// are enough or not.
+    fn several(&mut self, world: &mut World, random: &mut Random) -> Outcome {
+        let count = random.below(16);
+        let mut ahead = world.book.clone();
+        let mut rows: Vec<u64> = Vec::new();
+        let mut needed = 0;
+        for _ in 0..count {
+            let request = generate::request(random, ahead.book(), 64);
+            let row = row_of(random, &request);
+            if random.chance(1, 12) {
+                rows.extend(odd_row(random, row));
+                continue;
+            }
+            rows.extend(row);
+            needed += ahead
+                .answer(&request, usize::MAX)
+                .map_or(0, |answer| answer.count());
+        }
+        // Numbers past the last whole row do not count.
+        rows.extend((0..random.below(3)).map(|_| random.next()));
+        let answers = match random.below(6) {
+            0 => (3 * count).saturating_sub(1),
+            1 => random.below(3 * count),
+            2 => 3 * count + random.below(9),
+            _ => 3 * count,
+        };
+        let list = match random.below(4) {
+            0 => random.below(3 * needed),
+            1 => 3 * needed + random.below(30),
+            _ => 3 * needed,
+        };
+        world.lent.requests = Memory::of(&rows);
+        world.lent.answers = Memory::of(&world.filler.numbers(answers));
+        world.lent.list = Memory::of(&world.filler.numbers(list));
+        let done = self.session.compare(Call::Serve, &world.lent)?;
+        if done.answer.is_ok() {
+            for row in done.lent.answers.content().chunks_exact(3).take(count) {
+                self.summary.served[usize::from(row[0]).min(13)] += 1;
+            }
+            world.lent.clone_from(&done.lent);
+            world.book = sound(world.lent.book_in_tables().expect("rows for every count"));
+        }
+        Ok(())
     }
 
     /// Requests on tables that are too short or no sound book.
@@ -602,8 +682,15 @@ impl Requests {
             _ => Lent::of(&generate::damage(random, &book), filler),
         };
         for _ in 0..3 {
-            let call = some_call(random, &book, 64);
             let mut lent = lent.clone();
+            let call = if SERVE && random.chance(1, 6) {
+                let row = odd_row(random, [4, 0, 0]);
+                lent.requests = Memory::of(&[[0; 3], row].concat()[..random.below(7)]);
+                lent.answers = Memory::of(&filler.numbers(random.below(9)));
+                Call::Serve
+            } else {
+                some_call(random, &book, 64)
+            };
             let numbers = [0, 2, 3, 30, 1200][random.below(5)];
             lent.list = Memory::of(&filler.numbers(numbers));
             self.session.compare(call, &lent)?;
@@ -633,13 +720,28 @@ fn grow(book: &mut SoundBook, request: &Request) {
     }
 }
 
-/// A random set of so many of 64 users.
-fn of_size(random: &mut Random, size: u32) -> UserSet {
-    let mut set = UserSet::EMPTY;
-    while set.size() < size {
-        set = set.with(User::at(random.below(64)));
+/// A request as a row to serve; a place that does not count holds anything.
+fn row_of(random: &mut Random, request: &Request) -> [u64; 3] {
+    match *request {
+        Request::Join => [0, random.next(), random.next()],
+        Request::Insert(list) => {
+            let beyond = [1, 1 << 16, 1 << 63][random.below(3)];
+            [1, list.set.0, if list.beyond { beyond } else { 0 }]
+        }
+        Request::Grant(r, u) => [2, r.0.into(), u.0.into()],
+        Request::Revoke(r, u) => [3, r.0.into(), u.0.into()],
+        Request::Open(u, r) => [4, u.0.into(), r.0.into()],
     }
-    set
+}
+
+/// The row with a number that does not exist: past the kinds, or one that
+/// would wrap round to what was there.
+fn odd_row(random: &mut Random, mut row: [u64; 3]) -> [u64; 3] {
+    let more = [1 << 16, 1 << 32, 1 << 63, 5, u64::MAX][random.below(5)];
+    // A join and an insert have no other number that can be wrong.
+    let place = if row[0] < 2 { 0 } else { random.below(3) };
+    row[place] = row[place].saturating_add(more);
+    row
 }
 
 /// The call as a request; a view is none.

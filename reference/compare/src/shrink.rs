@@ -8,8 +8,9 @@ use fenstubble_reference::bytes::{self, read_rows, HEAD_LENGTH, LIMITS, MARK, WI
 use fenstubble_reference::numbers::{InnerVertex, OuterVertex, User};
 use fenstubble_reference::sets::UserSet;
 
-use crate::compare::{compare, Call, Difference};
+use crate::compare::{compare, numbers_needed, Difference};
 use crate::memory::{Lent, Memory, TABLES};
+use crate::side::Call;
 
 /// How many smaller cases are tried at most.
 const TRIES: usize = 4000;
@@ -43,7 +44,12 @@ impl Case {
             tries.get() > 0 && case.differs(numbers)
         };
         let plain = self.with_plain_lengths();
-        let case = if differs(&plain) { plain } else { self };
+        let mut case = if differs(&plain) { plain } else { self };
+        if case.call == Call::Serve {
+            let rows: Vec<&[u64]> = case.lent.requests.content().chunks(3).collect();
+            let rows = fewer(&rows, |rows| differs(&case.with_requests(&rows.concat())));
+            case = case.with_requests(&rows.concat());
+        }
         match case.call {
             Call::Section(_) | Call::Read => case.smallest_bytes(differs),
             _ => match case.lent.book_in_tables() {
@@ -65,6 +71,13 @@ impl Case {
             let length = table.len().min(LIMITS[k] * WIDTHS[k]);
             *table = Memory::of(&table.content()[..length]);
         }
+        case
+    }
+
+    /// The same call with other request rows.
+    fn with_requests(&self, rows: &[u64]) -> Case {
+        let mut case = self.clone();
+        case.lent.requests = Memory::of(rows);
         case
     }
 
@@ -140,10 +153,7 @@ impl Case {
                 .lent
                 .book_in_tables()
                 .map_or(0, |book| bytes::length(&book.head())),
-            #[cfg(feature = "requests")]
-            _ => crate::compare::numbers_needed(self.call, &self.lent),
-            #[cfg(not(feature = "requests"))]
-            _ => 0,
+            _ => numbers_needed(self.call, &self.lent),
         }
     }
 }
@@ -173,12 +183,16 @@ impl fmt::Display for Case {
             Call::Read => return Ok(()),
             Call::Write => writeln!(f, "a buffer of {} bytes", lent.buffer.len())?,
             Call::Check => {}
-            #[cfg(feature = "requests")]
             Call::View(..) => {}
-            #[cfg(feature = "requests")]
             _ => writeln!(f, "a list of {} numbers", lent.list.len())?,
-            #[cfg(not(feature = "requests"))]
-            _ => {}
+        }
+        if self.call == Call::Serve {
+            let requests = lent.requests.content();
+            writeln!(
+                f,
+                "{} answer numbers, the requests {requests:?}",
+                lent.answers.len()
+            )?;
         }
         writeln!(f, "the head {:?}", lent.head.content())?;
         if let Some(book) = lent.book_in_tables() {
@@ -282,7 +296,7 @@ impl Loose {
 
 /// As few of these as found that still differ: parts are left out, long ones
 /// first.
-fn fewer<T: Clone>(all: &[T], differs: impl Fn(&[T]) -> bool) -> Vec<T> {
+pub fn fewer<T: Clone>(all: &[T], differs: impl Fn(&[T]) -> bool) -> Vec<T> {
     let mut left = all.to_vec();
     let mut part = left.len().div_ceil(2);
     while part > 0 {

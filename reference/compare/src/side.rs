@@ -1,14 +1,97 @@
-//! The calls as both sides have them: over lent slices, with the answers of
-//! the model's lent face.
+//! The calls, what they are lent and what they answer, as both sides have
+//! them.
+
+use std::fmt;
 
 use fenstubble_reference::lent::Tables;
 use fenstubble_reference::refusal::Refusal;
-#[cfg(feature = "requests")]
-use fenstubble_reference::refusal::View;
+use fenstubble_reference::sets::UserSet;
+
+/// A call with its numbers.
+#[derive(Clone, Copy, Debug, PartialEq, Eq)]
+pub enum Call {
+    /// Check the tables.
+    Check,
+    /// Show that section of the book's bytes.
+    Section(usize),
+    /// Read the book's bytes into the tables.
+    Read,
+    /// Write the tables' book to the buffer.
+    Write,
+    /// Join.
+    Join,
+    /// Insert a list.
+    Insert(u64),
+    /// Grant a resource to a user.
+    Grant(u16, u16),
+    /// Revoke a resource from a user.
+    Revoke(u16, u16),
+    /// The view of a user on a resource.
+    View(u16, u16),
+    /// How a user opens a resource.
+    Open(u16, u16),
+    /// Serve the request rows (in the engine with the feature `serve`).
+    Serve,
+}
+
+impl Call {
+    /// The call's name.
+    pub fn name(self) -> &'static str {
+        match self {
+            Call::Check => "check",
+            Call::Section(_) => "section",
+            Call::Read => "read",
+            Call::Write => "write",
+            Call::Join => "join",
+            Call::Insert(_) => "insert",
+            Call::Grant(..) => "grant",
+            Call::Revoke(..) => "revoke",
+            Call::View(..) => "view",
+            Call::Open(..) => "open",
+            Call::Serve => "serve",
+        }
+    }
+}
+
+impl fmt::Display for Call {
+    /// As a line of the request program, where there is one.
+    fn fmt(&self, f: &mut fmt::Formatter<'_>) -> fmt::Result {
+        write!(f, "{}", self.name())?;
+        match *self {
+            Call::Section(k) => write!(f, " {k}"),
+            Call::Insert(list) => UserSet(list)
+                .users()
+                .try_for_each(|user| write!(f, " {}", user.0)),
+            Call::Grant(a, b) | Call::Revoke(a, b) | Call::View(a, b) | Call::Open(a, b) => {
+                write!(f, " {a} {b}")
+            }
+            _ => Ok(()),
+        }
+    }
+}
+
+/// What an accepted call gives besides what it writes.
+#[derive(Clone, Copy, Debug, PartialEq, Eq)]
+pub enum Given {
+    /// Nothing.
+    Nothing,
+    /// A stretch of the book's bytes: start and length.
+    Stretch(usize, usize),
+    /// How many bytes were written.
+    Length(usize),
+    /// How many order rows were given.
+    Orders(u16),
+    /// The view's number.
+    View(u16),
+    /// How many rows the two chains have.
+    Chains(u16, u16),
+    /// How many order rows all requests used.
+    Used(usize),
+}
 
 /// What a side answers: what the call gives, or a refusal; or something the
 /// interface does not have.
-pub type Answer<T> = Result<Result<T, Refusal>, Odd>;
+pub type Answer = Result<Result<Given, Refusal>, Odd>;
 
 /// An answer outside the interface: a result that is no refusal's number, or
 /// cells that do not go with it.
@@ -20,60 +103,29 @@ pub struct Odd {
     pub cells: String,
 }
 
-/// A side of the comparison. The head is at least 7 numbers and changes in
-/// place; a shorter one is refused with 13, like a table.
+/// What a call is lent; what it does not take is not touched. The head is at
+/// least 7 numbers and changes in place; a shorter one is refused with 13,
+/// like a table.
+#[derive(Debug)]
+pub struct Lending<'a> {
+    /// The head.
+    pub head: &'a mut [u16],
+    /// The tables.
+    pub tables: Tables<'a>,
+    /// A book's bytes.
+    pub book: &'a mut [u8],
+    /// The buffer to write to.
+    pub buffer: &'a mut [u8],
+    /// The order list, or the list of an open.
+    pub list: &'a mut [u16],
+    /// The request rows of a serve.
+    pub requests: &'a mut [u64],
+    /// The answer rows of a serve.
+    pub answers: &'a mut [u16],
+}
+
+/// A side of the comparison.
 pub trait Side {
-    /// 13 and 12.
-    fn check(head: &mut [u16], tables: &mut Tables) -> Answer<()>;
-
-    /// Where section `k` starts in the bytes, and its length.
-    fn section(book: &mut [u8], k: usize) -> Answer<(usize, usize)>;
-
-    /// Bytes into head and tables.
-    fn read(book: &mut [u8], head: &mut [u16], tables: &mut Tables) -> Answer<()>;
-
-    /// The book into the buffer; how many bytes.
-    fn write(head: &mut [u16], tables: &mut Tables, buffer: &mut [u8]) -> Answer<usize>;
-
-    /// How many order rows were given.
-    #[cfg(feature = "requests")]
-    fn join(head: &mut [u16], tables: &mut Tables, orders: &mut [u16]) -> Answer<u16>;
-
-    /// How many order rows were given.
-    #[cfg(feature = "requests")]
-    fn insert(head: &mut [u16], tables: &mut Tables, list: u64, orders: &mut [u16]) -> Answer<u16>;
-
-    /// How many order rows were given.
-    #[cfg(feature = "requests")]
-    fn grant(
-        head: &mut [u16],
-        tables: &mut Tables,
-        r: u16,
-        u: u16,
-        orders: &mut [u16],
-    ) -> Answer<u16>;
-
-    /// How many order rows were given.
-    #[cfg(feature = "requests")]
-    fn revoke(
-        head: &mut [u16],
-        tables: &mut Tables,
-        r: u16,
-        u: u16,
-        orders: &mut [u16],
-    ) -> Answer<u16>;
-
-    /// The view.
-    #[cfg(feature = "requests")]
-    fn view(head: &mut [u16], tables: &mut Tables, u: u16, r: u16) -> Answer<View>;
-
-    /// The counts of both chains.
-    #[cfg(feature = "requests")]
-    fn open(
-        head: &mut [u16],
-        tables: &mut Tables,
-        u: u16,
-        r: u16,
-        list: &mut [u16],
-    ) -> Answer<(u16, u16)>;
+    /// Makes the call.
+    fn make(call: Call, lent: &mut Lending) -> Answer;
 }

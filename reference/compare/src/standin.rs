@@ -10,7 +10,7 @@ use std::slice::from_raw_parts_mut;
 use fenstubble_reference::lent::Tables;
 
 use crate::model::Model;
-use crate::side::{Answer, Side};
+use crate::side::{Call, Given, Lending, Side};
 
 /// What is wrong with the stand-in.
 #[derive(Clone, Copy, Debug, PartialEq, Eq)]
@@ -53,6 +53,10 @@ pub enum Fault {
     ChainsSwapped,
     /// Something is kept between calls: every 300th with tables gets 13.
     Every300th,
+    /// Serving ends after the first request.
+    FirstAlone,
+    /// Serving forgets the rows of an open.
+    OpenUnused,
 }
 
 thread_local! {
@@ -75,16 +79,25 @@ unsafe fn slice<'a, T>(start: *const T, length: usize) -> &'a mut [T] {
     from_raw_parts_mut(start.cast_mut(), length)
 }
 
-/// The result and the cells of an answer.
-fn reply<T: Default>(answer: Answer<T>) -> (u16, T) {
-    match answer {
-        Ok(Ok(given)) => (0, given),
+/// Makes the call on the model: the result and the cells.
+fn reply(call: Call, lent: &mut Lending) -> (u16, [usize; 2]) {
+    match Model::make(call, lent) {
+        Ok(Ok(given)) => {
+            let cells = match given {
+                Given::Nothing => [0, 0],
+                Given::Stretch(a, b) => [a, b],
+                Given::Length(a) | Given::Used(a) => [a, 0],
+                Given::Orders(a) | Given::View(a) => [a.into(), 0],
+                Given::Chains(a, b) => [a.into(), b.into()],
+            };
+            (0, cells)
+        }
         Ok(Err(no)) => {
             let view = u16::from(no.view_number());
             let view = if planted(Fault::ViewLost) { 0 } else { view };
-            (u16::from(no.number) + 256 * view, T::default())
+            (u16::from(no.number) + 256 * view, [0, 0])
         }
-        Err(odd) => (odd.code, T::default()),
+        Err(odd) => (odd.code, [0, 0]),
     }
 }
 
@@ -105,16 +118,36 @@ fn touched(code: u16, tables: &mut Tables) -> u16 {
 }
 
 /// One in a cell, if the fault is planted and the call was refused.
-fn in_cell(code: u16) -> u16 {
-    u16::from(code != 0 && planted(Fault::CellOnRefusal))
+fn in_cell(code: u16) -> usize {
+    usize::from(code != 0 && planted(Fault::CellOnRefusal))
 }
 
-/// A C function whose five tables are lent under one name.
+/// Nothing lent.
+fn nothing<'a>() -> Lending<'a> {
+    Lending {
+        head: &mut [],
+        tables: Tables {
+            inner_vertices: &mut [],
+            inner_tokens: &mut [],
+            outer_vertices: &mut [],
+            outer_tokens: &mut [],
+            resources: &mut [],
+        },
+        book: &mut [],
+        buffer: &mut [],
+        list: &mut [],
+        requests: &mut [],
+        answers: &mut [],
+    }
+}
+
+/// A C function whose head and five tables are lent under one name.
 macro_rules! with_tables {
-    (fn $name:ident($($before:ident: $before_type:ty),*; $pointer:tt $tables:ident; $($after:ident: $after_type:ty),*) $body:block) => {
+    (fn $name:ident($($before:ident: $before_type:ty),*; $pointer:tt $lent:ident; $($after:ident: $after_type:ty),*) $body:block) => {
         #[no_mangle]
         unsafe extern "C" fn $name(
             $($before: $before_type,)*
+            head: *$pointer u16, head_len: usize,
             inner_vertices: *$pointer u8, inner_vertices_len: usize,
             inner_tokens: *$pointer u8, inner_tokens_len: usize,
             outer_vertices: *$pointer u8, outer_vertices_len: usize,
@@ -122,30 +155,33 @@ macro_rules! with_tables {
             resources: *$pointer u8, resources_len: usize,
             $($after: $after_type),*
         ) -> u16 {
-            let $tables = &mut Tables {
-                inner_vertices: slice(inner_vertices, inner_vertices_len),
-                inner_tokens: slice(inner_tokens, inner_tokens_len),
-                outer_vertices: slice(outer_vertices, outer_vertices_len),
-                outer_tokens: slice(outer_tokens, outer_tokens_len),
-                resources: slice(resources, resources_len),
+            let $lent = &mut Lending {
+                head: slice(head, head_len),
+                tables: Tables {
+                    inner_vertices: slice(inner_vertices, inner_vertices_len),
+                    inner_tokens: slice(inner_tokens, inner_tokens_len),
+                    outer_vertices: slice(outer_vertices, outer_vertices_len),
+                    outer_tokens: slice(outer_tokens, outer_tokens_len),
+                    resources: slice(resources, resources_len),
+                },
+                ..nothing()
             };
             CALLS.set(CALLS.get() + 1);
             if planted(Fault::Every300th) && CALLS.get() % 300 == 0 {
                 return 13;
             }
             let code = $body;
-            touched(code, $tables)
+            touched(code, &mut $lent.tables)
         }
     };
 }
 
 with_tables! {
-    fn fenstubble_check(head: *const u16, head_len: usize; const tables;) {
-        let head = slice(head, head_len);
-        if planted(Fault::HeadForgotten) && head_len == 7 {
-            head[6] = 0;
+    fn fenstubble_check(; const lent;) {
+        if planted(Fault::HeadForgotten) && lent.head.len() == 7 {
+            lent.head[6] = 0;
         }
-        reply(Model::check(head, tables)).0
+        reply(Call::Check, lent).0
     }
 }
 
@@ -157,26 +193,30 @@ unsafe extern "C" fn fenstubble_section(
     start: *mut usize,
     length: *mut usize,
 ) -> u16 {
-    let (code, (from, count)) = reply(Model::section(slice(book, book_len), k));
+    let lent = &mut Lending {
+        book: slice(book, book_len),
+        ..nothing()
+    };
+    let (code, [from, count]) = reply(Call::Section(k), lent);
     *start = from + usize::from(code == 0 && planted(Fault::LateSection));
-    *length = count + usize::from(in_cell(code));
+    *length = count + in_cell(code);
     code
 }
 
 with_tables! {
-    fn fenstubble_read(book: *const u8, book_len: usize, head: *mut u16, head_len: usize; mut tables;) {
-        let book = slice(book, book_len);
-        let head = slice(head, head_len);
-        if planted(Fault::FewResources) && book_len > 7 && book[7] > 2 {
+    fn fenstubble_read(book: *const u8, book_len: usize; mut lent;) {
+        lent.book = slice(book, book_len);
+        if planted(Fault::FewResources) && book_len > 7 && lent.book[7] > 2 {
             // 13 still comes first.
-            return reply(Model::check(head, tables)).0.max(12);
+            return reply(Call::Check, lent).0.max(12);
         }
-        let (code, ()) = reply(Model::read(book, head, tables));
+        let (code, _) = reply(Call::Read, lent);
+        let tables = &mut lent.tables;
         if code == 0 && planted(Fault::HeadForgotten) {
-            head[6] = 0;
+            lent.head[6] = 0;
         }
         if code == 0 && planted(Fault::UnusedRow) {
-            let row = usize::from(head[3]) * 8;
+            let row = usize::from(lent.head[3]) * 8;
             if let Some(row) = tables.inner_vertices.get_mut(row..row + 8) {
                 row.fill(0);
             }
@@ -189,102 +229,106 @@ with_tables! {
 }
 
 with_tables! {
-    fn fenstubble_write(head: *const u16, head_len: usize; const tables; buffer: *mut u8, buffer_len: usize, length: *mut usize) {
-        let buffer = slice(buffer, buffer_len);
-        let (code, given) = reply(Model::write(slice(head, head_len), tables, buffer));
-        *length = given + usize::from(in_cell(code));
+    fn fenstubble_write(; const lent; buffer: *mut u8, buffer_len: usize, length: *mut usize) {
+        lent.buffer = slice(buffer, buffer_len);
+        let (code, [given, _]) = reply(Call::Write, lent);
+        *length = given + in_cell(code);
         if code == 0 && planted(Fault::WrongLength) {
             *length += 1;
         }
         if code == 0 && planted(Fault::PastTheAnswer) {
-            *buffer.as_mut_ptr().add(given) = 0;
+            *lent.buffer.as_mut_ptr().add(given) = 0;
         }
         code
     }
 }
 
-/// The faults of a request that changes the book.
-#[cfg(feature = "requests")]
-fn ordered(answer: Answer<u16>, orders: &mut [u16], count: &mut u16) -> u16 {
-    let (code, rows) = reply(answer);
-    *count = rows + in_cell(code);
+/// A request that changes the book, and its faults.
+fn ordered(call: Call, lent: &mut Lending, count: &mut u16) -> u16 {
+    let (code, [rows, _]) = reply(call, lent);
+    *count = (rows + in_cell(code)) as u16;
     if code == 0 && planted(Fault::WrongCount) {
         *count += 1;
     }
     if code == 0 && planted(Fault::PastTheRows) {
-        if let Some(number) = orders.get_mut(usize::from(rows) * 3) {
+        if let Some(number) = lent.list.get_mut(rows * 3) {
             *number = 0;
         }
     }
     code
 }
 
-#[cfg(feature = "requests")]
 with_tables! {
-    fn fenstubble_join(head: *mut u16, head_len: usize; mut tables; orders: *mut u16, orders_len: usize, count: *mut u16) {
-        let orders = slice(orders, orders_len);
-        let answer = Model::join(slice(head, head_len), tables, orders);
-        ordered(answer, orders, &mut *count)
+    fn fenstubble_join(; mut lent; orders: *mut u16, orders_len: usize, count: *mut u16) {
+        lent.list = slice(orders, orders_len);
+        ordered(Call::Join, lent, &mut *count)
     }
 }
 
-#[cfg(feature = "requests")]
 with_tables! {
-    fn fenstubble_insert(head: *mut u16, head_len: usize; mut tables; orders: *mut u16, orders_len: usize, count: *mut u16, list: u64) {
-        let orders = slice(orders, orders_len);
-        let answer = Model::insert(slice(head, head_len), tables, list, orders);
-        ordered(answer, orders, &mut *count)
+    fn fenstubble_insert(; mut lent; orders: *mut u16, orders_len: usize, count: *mut u16, list: u64) {
+        lent.list = slice(orders, orders_len);
+        ordered(Call::Insert(list), lent, &mut *count)
     }
 }
 
-#[cfg(feature = "requests")]
 with_tables! {
-    fn fenstubble_grant(head: *mut u16, head_len: usize; mut tables; orders: *mut u16, orders_len: usize, count: *mut u16, resource: u16, user: u16) {
-        let orders = slice(orders, orders_len);
-        let answer = Model::grant(slice(head, head_len), tables, resource, user, orders);
-        let code = ordered(answer, orders, &mut *count);
+    fn fenstubble_grant(; mut lent; orders: *mut u16, orders_len: usize, count: *mut u16, resource: u16, user: u16) {
+        lent.list = slice(orders, orders_len);
+        let code = ordered(Call::Grant(resource, user), lent, &mut *count);
         if code == 0 && planted(Fault::LastRow) {
-            orders[usize::from(*count) * 3 - 1] ^= 1;
+            lent.list[usize::from(*count) * 3 - 1] ^= 1;
         }
         code
     }
 }
 
-#[cfg(feature = "requests")]
 with_tables! {
-    fn fenstubble_revoke(head: *mut u16, head_len: usize; mut tables; orders: *mut u16, orders_len: usize, count: *mut u16, resource: u16, user: u16) {
-        let orders = slice(orders, orders_len);
-        let head = slice(head, head_len);
-        let before = head.to_vec();
-        let answer = Model::revoke(head, tables, resource, user, orders);
+    fn fenstubble_revoke(; mut lent; orders: *mut u16, orders_len: usize, count: *mut u16, resource: u16, user: u16) {
+        lent.list = slice(orders, orders_len);
+        let before = lent.head.to_vec();
+        let code = ordered(Call::Revoke(resource, user), lent, &mut *count);
         if planted(Fault::HeadKept) {
-            head.copy_from_slice(&before);
+            lent.head.copy_from_slice(&before);
         }
-        ordered(answer, orders, &mut *count)
+        code
     }
 }
 
-#[cfg(feature = "requests")]
 with_tables! {
-    fn fenstubble_view(head: *const u16, head_len: usize; const tables; user: u16, resource: u16, view: *mut u16) {
-        let answer = Model::view(slice(head, head_len), tables, user, resource);
-        let (code, number) = reply(answer.map(|done| done.map(|view| u16::from(view.number()))));
+    fn fenstubble_view(; const lent; user: u16, resource: u16, view: *mut u16) {
+        let (code, [number, _]) = reply(Call::View(user, resource), lent);
         *view = match number {
             1 | 2 if planted(Fault::ViewsSwapped) => 3 - number,
             _ => number + in_cell(code),
-        };
+        } as u16;
         code
     }
 }
 
-#[cfg(feature = "requests")]
 with_tables! {
-    fn fenstubble_open(head: *const u16, head_len: usize; const tables; user: u16, resource: u16, list: *mut u16, list_len: usize, inner: *mut u16, outer: *mut u16) {
-        let list = slice(list, list_len);
-        let (code, (a, b)) = reply(Model::open(slice(head, head_len), tables, user, resource, list));
+    fn fenstubble_open(; const lent; user: u16, resource: u16, list: *mut u16, list_len: usize, inner: *mut u16, outer: *mut u16) {
+        lent.list = slice(list, list_len);
+        let (code, [a, b]) = reply(Call::Open(user, resource), lent);
         let (a, b) = if planted(Fault::ChainsSwapped) { (b, a) } else { (a, b) };
-        *inner = a + in_cell(code);
-        *outer = b;
+        *inner = (a + in_cell(code)) as u16;
+        *outer = b as u16;
+        code
+    }
+}
+
+#[cfg(feature = "serve")]
+with_tables! {
+    fn fenstubble_serve(; mut lent; requests: *const u64, requests_len: usize, answers: *mut u16, answers_len: usize, orders: *mut u16, orders_len: usize, used: *mut usize) {
+        let served = if planted(Fault::FirstAlone) { requests_len.min(3) } else { requests_len };
+        lent.requests = slice(requests, served);
+        lent.answers = slice(answers, answers_len);
+        lent.list = slice(orders, orders_len);
+        let (code, [rows, _]) = reply(Call::Serve, lent);
+        *used = rows + in_cell(code);
+        if code == 0 && planted(Fault::OpenUnused) {
+            *used -= lent.list.chunks_exact(3).take(rows).filter(|row| row[0] > 7).count();
+        }
         code
     }
 }

@@ -112,7 +112,6 @@ fn something_kept_between_calls() {
     assert!(report.smallest.contains("does not differ"), "{report}");
 }
 
-#[cfg(feature = "requests")]
 mod requests {
     use super::*;
     use fenstubble_compare::requests;
@@ -134,6 +133,8 @@ mod requests {
             ),
             (Fault::ViewsSwapped, "view", "engine View("),
             (Fault::ChainsSwapped, "open", "engine Chains("),
+            (Fault::FirstAlone, "serve", "the answers at"),
+            (Fault::OpenUnused, "serve", "engine Used("),
         ] {
             let report = found(fault, requests::run);
             assert!(report.call.starts_with(call), "{fault:?}: {report}");

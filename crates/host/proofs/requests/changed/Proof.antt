@@ -1,15 +1,15 @@
--- `requests::fenstubble_insert` meets its contract. Assumes nothing.
+-- `requests::changed` meets its contract. Assumes nothing.
 use native.Mathlib.Omega.{arith}
 use Rattle.rules.specs.Bytes.{Tables, tables}
 use Rattle.host.proofs.RequestLaws.{change-short, change-told}
 use borrow.Author.Needs.{needs}
-use Rattle.host.proofs.requests.fenstubble_insert.Statement.{statement}
-use Rattle.host.proofs.requests.fenstubble_insert.Tie as tie
+use Rattle.host.proofs.requests.changed.Statement.{statement}
+use Rattle.host.proofs.requests.changed.Tie as tie
 
 -- the tables after the request
-abbrev left : tie.After-insert → Tables
+abbrev left : tie.After-change → Tables
 left c =
-    let u = c .insert .last .1 in
+    let u = c .change .last .1 in
     tables (u .0) (u .1 .0) (u .1 .1 .0) (u .1 .1 .1 .0) (u .1 .1 .1 .1 .0)
 
 returns : tie.Need-returns
@@ -18,8 +18,8 @@ returns c = change-short _ _ _ _ (c .if1 .taken)
 head-of-requires : tie.Need-head-of-requires
 head-of-requires c κs = search needs
 
-insert-requires : tie.Need-insert-requires
-insert-requires c κs = search needs
+change-requires : tie.Need-change-requires
+change-requires c κs = search needs
 
 told-requires : tie.Need-told-requires
 told-requires c κs = search needs
@@ -50,15 +50,15 @@ returns-2 c =
     let t = c .before .before in
     let r = t .before .before .before .before .before .before .before .before .before .before .before .before .before .before .before in
     let h = r .before .before .before .before .before .before .before in
-    change-told _ _ _ _ {u = left r} (omega (arith, h .before .before .if1 .left)) (h .head-of .ensures) (r .insert .ensures) (t .told .ensures)
+    change-told _ _ _ _ {u = left r} (omega (arith, h .before .before .if1 .left)) (h .head-of .ensures) (r .change .ensures) (t .told .ensures)
 
-pub fenstubble-insert-spec : {M : Type 1} → statement M
-fenstubble-insert-spec =
+pub changed-spec : {M : Type 1} → statement M
+changed-spec =
     tie.close
     (tie.spec
     returns
     head-of-requires
-    insert-requires
+    change-requires
     told-requires
     same-length
     same-length-2

@@ -1,0 +1,79 @@
+-- A request whose orders go to a lent list of records: what it answers, and what it leaves in all it was lent.
+-- Assumes nothing.
+use Prim.Native.Nat.{ℕ, _+_, _*_}
+use mathlib.Core.Bool.{cond}
+use mathlib.Core.List.{List, [], _++_}
+use mathlib.Core.Option.{Option, some, none}
+use lib.Dec.{ltb}
+use lib.ListN.{length, drop, getD}
+use Rattle.rows.specs.Number.{rowsOf}
+use Rattle.rules.specs.Requests.{Done}
+use Rattle.rules.specs.Bytes.{Tables, bookIn}
+use Rattle.rules.specs.Refusals.{Request, joins, inserts, grants, revokes, work, refusal}
+use Rattle.rules.specs.Calls.{Change, changeBy}
+use Rattle.rules.specs.declared.Head.{Head}
+use Rattle.rules.specs.declared.Order.{Order}
+use Rattle.rules.specs.declared.Refusal.{Refusal}
+use Rattle.rules.specs.declared.Changed.{Changed}
+use Rattle.rules.specs.declared.Changed.the-variants as changed
+use Rattle.orders.specs.declared.Request.{Request as Asked}
+use Rattle.orders.specs.declared.Request.the-variants.{Join, Insert, Grant, Revoke}
+
+-- ---- the call
+
+-- the request that the paper knows
+abbrev pub asked : Asked → Request
+asked Join = joins
+asked (Insert l) = inserts (l .0)
+asked (Grant r u) = grants (r .0) (u .0)
+asked (Revoke r u) = revokes (r .0) (u .0)
+
+-- "list rows .. past the answer, are never touched"
+unfoldable pub over : List Order → List Order → List Order
+over os list = os ++ drop (length os) list
+
+pub record Recorded : Type 0 where
+  pub answer : Changed
+  pub tables : Tables
+  pub records : List Order
+
+abbrev pub recording : Changed → Tables → List Order → Recorded
+recording a t list = record { answer = a; tables = t; records = list }
+
+-- the records that a request leaves: its orders over what was there, or what was there
+unfoldable pub recordsBy : Option Refusal → Done → List Order → List Order
+recordsBy (some r) d list = list
+recordsBy none d list = over (d .orders) list
+
+unfoldable pub recordedBy : Option Refusal → Done → Tables → List Order → Recorded
+recordedBy v d t list = let c = changeBy v d t [] in recording (c .answer) (c .tables) (recordsBy v d list)
+
+-- 10 is judged on the records lent
+unfoldable pub recorded : Request → Head → Tables → List Order → Recorded
+recorded q h t list = recordedBy (refusal t (bookIn h t) (length list) q) (work q (bookIn h t)) t list
+
+-- ---- its parts
+
+-- row i of some numbers, three to a row
+unfoldable pub orderAt : List ℕ → ℕ → Order
+orderAt rows i = record { kind = getD rows (i * 3) 0; a = getD rows (i * 3 + 1) 0; b = getD rows (i * 3 + 2) 0 }
+
+unfoldable pub orderOf : List ℕ → Order
+orderOf row = orderAt row 0
+
+-- the first n rows
+unfoldable pub ordersIn : ℕ → List ℕ → List Order
+ordersIn n rows = rowsOf 3 orderOf n rows
+
+-- the rows that are needed where `room` are lent: no request gives more than 385
+unfoldable pub least : ℕ → ℕ
+least room = cond (ltb room 385) room 385
+
+-- the request on `room` rows, its orders over these numbers
+unfoldable pub filled : Request → Head → Tables → ℕ → List ℕ → Change
+filled q h t room rows = changeBy (refusal t (bookIn h t) room q) (work q (bookIn h t)) t rows
+
+-- the orders given
+abbrev pub countOf : Changed → ℕ
+countOf (changed.Done h n) = n
+countOf (changed.No r) = 0

@@ -1,0 +1,302 @@
+//! Keeps a small book in memory through the C interface: three people, two
+//! folders, a grant, a revoke; then to a file and back.
+//!
+//!     rustc --edition 2021 -L target/staticlib examples/keep.rs && ./keep book.tkb
+//!
+//! The engine decides, the host obeys. This host has no keys and no ciphers:
+//! it says each order in words. It ends with status 1 if a call answers
+//! anything but what is expected of it here.
+
+use std::path::Path;
+use std::process::ExitCode;
+use std::{env, fs};
+
+/// Declares calls of include/fenstubble.h: all but `section` have the head
+/// and the five tables among their arguments, each as pointer and length.
+/// What the header lends as `const` is a `*mut` here; the call only reads it.
+macro_rules! calls {
+    ($(fn $name:ident($($before:ident: $b:ty),*; head, tables; $($after:ident: $a:ty),*);)*) => {
+        #[link(name = "host", kind = "static")]
+        extern "C" {
+            $(fn $name(
+                $($before: $b,)*
+                head: *mut u16, head_len: usize,
+                inner_vertices: *mut u8, inner_vertices_len: usize,
+                inner_tokens: *mut u8, inner_tokens_len: usize,
+                outer_vertices: *mut u8, outer_vertices_len: usize,
+                outer_tokens: *mut u8, outer_tokens_len: usize,
+                resources: *mut u8, resources_len: usize,
+                $($after: $a),*
+            ) -> u16;)*
+        }
+    };
+}
+
+calls! {
+    fn fenstubble_check(; head, tables;);
+    fn fenstubble_read(book: *const u8, book_len: usize; head, tables;);
+    fn fenstubble_write(; head, tables; buffer: *mut u8, buffer_len: usize, length: *mut usize);
+    fn fenstubble_join(; head, tables; orders: *mut u16, orders_len: usize, count: *mut u16);
+    fn fenstubble_insert(; head, tables; orders: *mut u16, orders_len: usize, count: *mut u16, list: u64);
+    fn fenstubble_grant(; head, tables; orders: *mut u16, orders_len: usize, count: *mut u16, resource: u16, user: u16);
+    fn fenstubble_revoke(; head, tables; orders: *mut u16, orders_len: usize, count: *mut u16, resource: u16, user: u16);
+    fn fenstubble_open(; head, tables; user: u16, resource: u16, list: *mut u16, list_len: usize, inner: *mut u16, outer: *mut u16);
+}
+
+/// Bytes of the largest book.
+const LARGEST: usize = 46_609;
+/// Order rows: no request gives more.
+const ROWS: usize = 385;
+
+/// A book: a head and five tables, all of them ours.
+struct Book {
+    head: [u16; 7],
+    inner_vertices: [u8; 320 * 8],
+    inner_tokens: [u8; 4096 * 5],
+    outer_vertices: [u8; 512 * 8],
+    outer_tokens: [u8; 4096 * 4],
+    resources: [u8; 256 * 12],
+}
+
+/// Makes a call with a book's head and tables in their place.
+macro_rules! call {
+    ($name:ident($($before:expr),*; $book:expr; $($after:expr),*)) => {
+        // SAFETY: each pointer comes with the length of the array it points
+        // to, the arrays do not overlap, and nothing is kept after the call.
+        unsafe {
+            $name(
+                $($before,)*
+                $book.head.as_mut_ptr(), $book.head.len(),
+                $book.inner_vertices.as_mut_ptr(), $book.inner_vertices.len(),
+                $book.inner_tokens.as_mut_ptr(), $book.inner_tokens.len(),
+                $book.outer_vertices.as_mut_ptr(), $book.outer_vertices.len(),
+                $book.outer_tokens.as_mut_ptr(), $book.outer_tokens.len(),
+                $book.resources.as_mut_ptr(), $book.resources.len(),
+                $($after),*
+            )
+        }
+    };
+}
+
+/// A call that said no and changed nothing: its result, which is the reason's
+/// number, for 11 with the view in its upper byte.
+#[derive(Debug, PartialEq)]
+struct No(u16);
+
+/// The rows of an accepted request, to be obeyed in their order. A host with
+/// real keys stores these with the new book before it begins to obey.
+type Orders = Vec<[u16; 3]>;
+
+fn done<T>(result: u16, given: T) -> Result<T, No> {
+    if result == 0 {
+        Ok(given)
+    } else {
+        Err(No(result))
+    }
+}
+
+/// Lends an order list to a request and takes the rows it was given.
+fn ordered(request: impl FnOnce(*mut u16, usize, *mut u16) -> u16) -> Result<Orders, No> {
+    let (mut list, mut count) = ([0; ROWS * 3], 0);
+    let result = request(list.as_mut_ptr(), list.len(), &mut count);
+    let rows = list.chunks_exact(3).take(usize::from(count));
+    done(result, rows.map(|row| [row[0], row[1], row[2]]).collect())
+}
+
+impl Book {
+    /// The empty book. What stands in tables that are not in use is never
+    /// looked at.
+    fn empty_delta(unused: u8) -> Book {
+        Book {
+            head: [1, 0, 0, 0, 0, 0, 0],
+            inner_vertices: [unused; 320 * 8],
+            inner_tokens: [unused; 4096 * 5],
+            outer_vertices: [unused; 512 * 8],
+            outer_tokens: [unused; 4096 * 4],
+            resources: [unused; 256 * 12],
+        }
+    }
+
+    fn check(&mut self) -> Result<(), No> {
+        done(call!(fenstubble_check(; self;)), ())
+    }
+
+    fn join(&mut self) -> Result<Orders, No> {
+        ordered(|rows, len, count| call!(fenstubble_join(; self; rows, len, count)))
+    }
+
+    /// A list of people is a set of bits: bit i for person i.
+    fn insert(&mut self, list: u64) -> Result<Orders, No> {
+        ordered(|rows, len, count| call!(fenstubble_insert(; self; rows, len, count, list)))
+    }
+
+    fn grant(&mut self, resource: u16, user: u16) -> Result<Orders, No> {
+        ordered(
+            |rows, len, count| call!(fenstubble_grant(; self; rows, len, count, resource, user)),
+        )
+    }
+
+    fn revoke(&mut self, resource: u16, user: u16) -> Result<Orders, No> {
+        ordered(
+            |rows, len, count| call!(fenstubble_revoke(; self; rows, len, count, resource, user)),
+        )
+    }
+
+    /// The token rows of the inner chain, then those of the outer.
+    fn open(&mut self, user: u16, resource: u16) -> Result<(Vec<u16>, Vec<u16>), No> {
+        // A chain has at most 63 tokens.
+        let (mut list, mut inner, mut outer) = ([0; 126], 0, 0);
+        let result = call!(fenstubble_open(; self; user, resource, list.as_mut_ptr(), list.len(), &mut inner, &mut outer));
+        let (inner, outer) = (usize::from(inner), usize::from(outer));
+        done(
+            result,
+            (list[..inner].to_vec(), list[inner..inner + outer].to_vec()),
+        )
+    }
+
+    fn write(&mut self) -> Result<Vec<u8>, No> {
+        let (mut buffer, mut length) = (vec![0; LARGEST], 0);
+        let result =
+            call!(fenstubble_write(; self; buffer.as_mut_ptr(), buffer.len(), &mut length));
+        buffer.truncate(length);
+        done(result, buffer)
+    }
+
+    fn read(&mut self, bytes: &[u8]) -> Result<(), No> {
+        done(
+            call!(fenstubble_read(bytes.as_ptr(), bytes.len(); self;)),
+            (),
+        )
+    }
+}
+
+/// What an order asks of the host.
+fn obey(order: [u16; 3]) -> Result<(), String> {
+    match order {
+        [1, v, _] => println!("  make outer key {v}"),
+        [2, from, to] => println!("  publish outer token {from} -> {to}"),
+        [3, r, 65535] => println!("  take the outer lock off folder {r}"),
+        [3, r, v] => println!("  re-lock folder {r} with outer key {v}"),
+        [4, v, _] => println!("  make inner key {v}"),
+        [5, from, to] => println!("  publish inner token {from} -> {to}"),
+        [6, from, to] => println!("  publish access token {from} -> {to}"),
+        [7, r, v] => println!("  encrypt folder {r} with access key {v}"),
+        _ => return Err("an order of kind 1 to 7".into()),
+    }
+    Ok(())
+}
+
+/// An accepted request's orders are obeyed one after the other.
+fn accepted(result: Result<Orders, No>) -> Result<(), String> {
+    let orders =
+        result.map_err(|No(number)| format!("a request that is accepted, not {number}"))?;
+    orders.into_iter().try_for_each(obey)
+}
+
+fn refused(result: Result<Orders, No>, number: u16) -> Result<(), String> {
+    expect(result == Err(No(number)), "a request that is refused")?;
+    println!("  refused: {number}");
+    Ok(())
+}
+
+/// How a person opens a folder; `closed` is the view where they do not: 1 the
+/// outer lock holds, 2 the inner, 3 both.
+fn open(book: &mut Book, user: u16, resource: u16, closed: Option<u16>) -> Result<(), String> {
+    println!("open folder {resource} as person {user}");
+    match (book.open(user, resource), closed) {
+        (Ok((inner, outer)), None) => {
+            inner
+                .iter()
+                .for_each(|row| println!("  follow inner token row {row}"));
+            outer
+                .iter()
+                .for_each(|row| println!("  follow outer token row {row}"));
+            println!("  open");
+        }
+        (Err(no), Some(view @ 1..=3)) if no == No(11 + 256 * view) => {
+            println!(
+                "  closed by {}",
+                ["the outer lock", "the inner lock", "both locks"][usize::from(view) - 1]
+            );
+        }
+        (other, _) => return Err(format!("an open that answers otherwise than {other:?}")),
+    }
+    Ok(())
+}
+
+fn expect(met: bool, what: &str) -> Result<(), String> {
+    met.then_some(()).ok_or(what.into())
+}
+
+fn keep(file: &Path) -> Result<(), String> {
+    let mut book = Book::empty_delta(0);
+    expect(book.check().is_ok(), "an empty book that is sound")?;
+    println!("an empty delta book");
+
+    for person in 0..3 {
+        println!("person {person} joins");
+        accepted(book.join())?;
+    }
+
+    println!("insert folder 0 for persons 0 and 1");
+    accepted(book.insert(1 << 0 | 1 << 1))?;
+    println!("insert folder 1 for persons 0 and 1");
+    accepted(book.insert(1 << 0 | 1 << 1))?;
+
+    // Both folders have the same inner key: the new reader of one must be
+    // kept out of the other.
+    println!("grant folder 0 to person 2");
+    accepted(book.grant(0, 2))?;
+    open(&mut book, 2, 0, None)?;
+    open(&mut book, 2, 1, Some(1))?;
+
+    println!("revoke folder 0 from person 1");
+    accepted(book.revoke(0, 1))?;
+    open(&mut book, 1, 0, Some(1))?;
+    open(&mut book, 0, 0, None)?;
+
+    println!("revoke folder 0 from person 1 again");
+    refused(book.revoke(0, 1), 6)?;
+    println!("grant folder 0 to person 9");
+    refused(book.grant(0, 9), 1)?;
+
+    // To a file, and back into tables that know nothing of it.
+    let bytes = book.write().map_err(|_| "a book that can be written")?;
+    fs::write(file, &bytes).map_err(|_| "a file that can be written")?;
+    println!("write the book: {} bytes", bytes.len());
+    let mut back = fs::read(file).map_err(|_| "a file that can be read")?;
+    let mut again = Book::empty_delta(0xFF);
+    expect(again.read(&back).is_ok(), "a book that can be read")?;
+    expect(again.head == book.head, "the same head")?;
+    expect(again.write().as_ref() == Ok(&bytes), "the same book")?;
+    println!("read it back: the same book");
+    open(&mut again, 2, 0, None)?;
+    println!("grant folder 0 to person 1 again");
+    accepted(again.grant(0, 1))?;
+    open(&mut again, 1, 0, None)?;
+
+    // Nothing that is not a sound book is taken for one.
+    back[bytes.len() - 4] ^= 1;
+    expect(
+        again.read(&back) == Err(No(12)),
+        "a damaged book that is refused",
+    )?;
+    println!("read it with one bit changed\n  refused: 12");
+
+    println!("all as expected");
+    Ok(())
+}
+
+fn main() -> ExitCode {
+    let Some(file) = env::args_os().nth(1) else {
+        eprintln!("usage: keep FILE");
+        return ExitCode::from(2);
+    };
+    match keep(Path::new(&file)) {
+        Ok(()) => ExitCode::SUCCESS,
+        Err(what) => {
+            eprintln!("not as expected: {what}");
+            ExitCode::FAILURE
+        }
+    }
+}

@@ -1,0 +1,17 @@
+//! Compares the request programs on whole scripts.
+
+use std::io::{self, Write};
+use std::process::ExitCode;
+
+use fenstubble_compare::desk::Desk;
+use fenstubble_compare::{command, scripts};
+
+fn main() -> ExitCode {
+    match Desk::find() {
+        Ok(desk) => command::run("scripts", 500_000, |bounds| scripts::run(&desk, bounds)),
+        Err(text) => {
+            let _ = writeln!(io::stderr(), "scripts: {text}");
+            ExitCode::from(2)
+        }
+    }
+}

@@ -1,0 +1,21 @@
+//! A bounded comparison of the request programs.
+
+use fenstubble_compare::desk::Desk;
+use fenstubble_compare::report::Bounds;
+use fenstubble_compare::scripts;
+
+#[test]
+fn scripts_alike() {
+    let desk = Desk::find().unwrap_or_else(|text| panic!("{text}"));
+    let bounds = Bounds {
+        seed: 1,
+        first: 0,
+        count: 100_000,
+        time: None,
+    };
+    let summary = scripts::run(&desk, bounds).unwrap_or_else(|report| panic!("{report}"));
+    println!("{summary}");
+    // It was no empty comparison.
+    assert_eq!(summary.missing(), [""; 0]);
+    assert!(summary.most_rows >= 320, "{summary}");
+}
