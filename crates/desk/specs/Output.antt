@@ -1,7 +1,9 @@
 -- How far the output buffer is filled, and the order rows that answer rows count.
 -- Assumes nothing.
 use Prim.Native.Nat.{ℕ, _+_, _≤_}
+use mathlib.Core.Bool.{Bool, true, _&&_, not}
 use mathlib.Core.List.{List, [], _∷_}
+use lib.Dec.{eqb}
 use lib.ListN.{length}
 use Rattle.desk.specs.declared.output.Printed.{Printed}
 use Rattle.desk.specs.declared.output.Printed.the-variants.{To, Failed}
@@ -19,3 +21,10 @@ counts [] = 0
 counts (n ∷ []) = 0
 counts (n ∷ v ∷ []) = 0
 counts (n ∷ v ∷ c ∷ rows) = c + counts rows
+
+-- none of them has the number 10
+unfoldable pub neverTen : List ℕ → Bool
+neverTen [] = true
+neverTen (n ∷ []) = true
+neverTen (n ∷ v ∷ []) = true
+neverTen (n ∷ v ∷ c ∷ rows) = not (eqb n 10) && neverTen rows

@@ -4,13 +4,18 @@ use crate::input::line_end;
 use lines::request::Asked;
 use lines::request::Line;
 use lines::request::read_line;
+use policy::serve::serve;
+use rules::Head;
+use rules::Served;
 ghost use mathlib.Core.Path.{_≡_};
 ghost use Prim.Native.Nat.{_+_, _*_, _≤_};
 ghost use lib.ListN.{length, take};
 ghost use Rattle.rows.specs.Number.{stored};
+ghost use Rattle.rules.specs.Bytes.{tables};
+ghost use Rattle.plan.specs.Judge.{Ready};
 ghost use Rattle.lines.specs.Request.{lineAsks};
 ghost use Rattle.desk.specs.Input.{Within};
-ghost use Rattle.desk.specs.Block.{rowFor, numbersOf, mostOf, mostIn};
+ghost use Rattle.desk.specs.Block.{rowFor, numbersOf, mostOf, mostIn, Enough, Answered};
 
 // At most so many lines.
 pub const BLOCK: usize = 128;
@@ -108,4 +113,23 @@ pub fn read_block(input: &[u8], u: Unread, requests: &mut [u64]) -> Block
             ended: u.ended,
         },
     }
+}
+
+// The block's requests on the book, in one call. None finds the order list too short.
+pub fn serve_block(
+    h: Head,
+    iv: &mut [u8],
+    it: &mut [u8],
+    ov: &mut [u8],
+    ot: &mut [u8],
+    rs: &mut [u8],
+    requests: &[u64],
+    answers: &mut [u16],
+    orders: &mut [u16],
+) -> Served
+    requires { ⌜ Ready h (tables (now iv) (now it) (now ov) (now ot) (now rs)) ⌝ }
+    requires { ⌜ Enough (now requests) (now answers) (now orders) ⌝ }
+    ensures { λ s. ⌜ Answered s (tables (now (iv .exit)) (now (it .exit)) (now (ov .exit)) (now (ot .exit)) (now (rs .exit))) (take (length (now (requests .entry))) (now (answers .exit))) (now (orders .exit)) ⌝ }
+{
+    serve(h, iv, it, ov, ot, rs, requests, answers, orders)
 }

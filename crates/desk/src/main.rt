@@ -7,6 +7,7 @@ mod output;
 use block::BLOCK;
 use block::ORDERS;
 use block::read_block;
+use block::serve_block;
 use input::INPUT;
 use input::Unread;
 use input::read_first;
@@ -18,7 +19,6 @@ use output::Printed;
 use output::print_block;
 use output::refuse_start;
 use output::write_out;
-use policy::serve::serve;
 use rules::Head;
 use rules::InnerTokens;
 use rules::InnerVertices;
@@ -116,7 +116,7 @@ fn turn(
         );
     }
     let end = rows * 3;
-    let served = serve(head, iv, it, ov, ot, rs, &requests[..end], answers, orders);
+    let served = serve_block(head, iv, it, ov, ot, rs, &requests[..end], answers, orders);
     let unread = b.unread;
     let Served::Done(head, _) = served else {
         return State {
@@ -126,7 +126,7 @@ fn turn(
             going: false,
         };
     };
-    let p = print_block(&requests[..end], answers, orders, out, filled);
+    let p = print_block(requests, &answers[..end], orders, out, filled);
     let Printed::To(filled) = p else {
         return State {
             head,
