@@ -5,16 +5,24 @@ use mathlib.Core.Path.{_≡_, refl, sym, ap, _∙_}
 use mathlib.Core.Bool.{Bool, true, false, cond}
 use mathlib.Core.List.{List, [], _∷_, _++_, append-assoc}
 use native.Mathlib.Omega.{arith}
+use lib.Dec.{ltb}
 use lib.ListN.{length, take, drop, getD, length-append, length-take, length-drop}
 use lib.Seq.{length-take-le, take-at}
+use borrow.Author.Tests.{ltb-true}
 use Rattle.rows.specs.Number.{stored}
+use Rattle.rules.specs.Lists.{first}
 use Rattle.lines.specs.Answer.{answerText, roomFor, writing, Written, putAnswer}
 use Rattle.lines.specs.declared.answer.Put.{Put}
 use Rattle.lines.specs.declared.answer.Put.the-variants.{To, Full}
 use Rattle.lines.proofs.Passed.{next}
+use Rattle.lines.specs.Request.{same, modes, modeOf, firstLine}
+use Rattle.lines.specs.declared.request.First.{First}
+use Rattle.lines.specs.declared.request.First.the-variants.{Of}
+use Rattle.lines.specs.declared.request.First.the-variants as firsts
 use Rattle.lines.specs.declared.request.Asked.{Asked}
 use Rattle.lines.specs.declared.request.Line.{Line}
 use Rattle.lines.specs.declared.request.Line.the-variants.{Asks, Malformed}
+use Rattle.desk.specs.Input.{Moded}
 use Rattle.desk.specs.Block.{malformed, rowFor, numbersOf, mostOf, mostIn}
 use Rattle.desk.specs.Output.{counts}
 
@@ -98,3 +106,18 @@ most-more rows q l h =
     (ap (λ (x : List ℕ). take ((rows + 1) * 3) x) (sym (append-assoc before (numbersOf q) (drop (rows * 3 + 3) l)))
     ∙ take-at (before ++ numbersOf q) (drop (rows * 3 + 3) l) ((rows + 1) * 3) (omega (arith, length-append before (numbersOf q))))
     ∙ (most-append before (numbersOf q) (omega arith) ∙ ap (λ (n : ℕ). mostIn before + n) (omega arith))
+
+-- ---- the first line
+
+pub moded : (bs : List ℕ) {f : First} → f ≡ firstLine bs → Moded f
+unfolding firstLine modeOf
+moded bs {f} e = rw e (go (first (same bs) modes))
+  where
+    go : (k : ℕ) → Moded (cond (ltb k 2) (Of (record { 0 = k })) firsts.Malformed)
+    go zero = omega arith
+    go (suc zero) = omega arith
+    go (suc (suc k)) = more (ltb (suc (suc k)) 2) refl
+      where
+        more : (z : Bool) → ltb (suc (suc k)) 2 ≡ z → Moded (cond z (Of (record { 0 = suc (suc k) })) firsts.Malformed)
+        more true e = omega (arith, ltb-true (suc (suc k)) 2 e)
+        more false e = tt

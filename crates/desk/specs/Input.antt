@@ -5,6 +5,8 @@ use mathlib.Core.Bool.{Bool}
 use mathlib.Core.List.{List}
 use lib.Dec.{eqb}
 use lib.ListN.{length}
+use Rattle.lines.specs.declared.request.First.{First}
+use Rattle.lines.specs.declared.request.First.the-variants.{Of, Malformed}
 use Rattle.desk.specs.declared.input.Unread.{Unread}
 
 abbrev pub newline : ℕ → Bool
@@ -19,3 +21,8 @@ pub record Within (u : Unread) (input : List ℕ) : Type 0 where
 pub record Kept (u : Unread) : Type 0 where
   pub front : u .from ≤ 0
   pub short : u .to ≤ 512
+
+-- what the first line names is a mode
+abbrev pub Moded : First → Type 0
+Moded (Of m) = m .0 ≤ 1
+Moded Malformed = Unit {0}

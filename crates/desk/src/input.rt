@@ -6,7 +6,7 @@ ghost use mathlib.Core.Path.{_≡_};
 ghost use Prim.Native.Nat.{_-_, _≤_, _<_};
 ghost use lib.ListN.{length};
 ghost use Rattle.rules.specs.Lists.{first};
-ghost use Rattle.desk.specs.Input.{newline, Within, Kept};
+ghost use Rattle.desk.specs.Input.{newline, Within, Kept, Moded};
 
 // The buffer's bytes: a line too long to be a request and one read more.
 pub const INPUT: usize = 16384;
@@ -168,6 +168,7 @@ pub struct Taken {
 pub fn take_mode(input: &[u8], u: Unread) -> Taken
     requires { ⌜ Within u (now input) ⌝ }
     ensures { λ r. ⌜ Within (r .unread) (now (input .entry)) ⌝ }
+    ensures { λ r. ⌜ Moded (r .first) ⌝ }
 {
     let from = u.from;
     let to = u.to;

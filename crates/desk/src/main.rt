@@ -28,20 +28,27 @@ use rules::OuterTokens;
 use rules::OuterVertices;
 use rules::Resources;
 use rules::Served;
-ghost use Prim.Native.Nat.{_≤_, _<_};
+ghost use mathlib.Core.Path.{_≡_};
+ghost use Prim.Native.Nat.{_≤_};
 ghost use lib.ListN.{length};
-ghost use Rattle.desk.specs.Turn.{Holds, Starts};
+ghost use Rattle.rules.specs.Book.{emptyBook};
+ghost use Rattle.rules.specs.Bytes.{tables, headOf};
+ghost use Rattle.plan.specs.Judge.{Ready};
+ghost use Rattle.desk.specs.Block.{Enough};
+ghost use Rattle.desk.specs.Turn.{Starts, Holds, Waits, Lent, Printing};
 
 // The head of the empty book.
-fn empty_head(mode: Mode) -> Head {
+fn empty_head(mode: Mode) -> Head
+    ensures { λ r. ⌜ r ≡ headOf (emptyBook (mode .0)) ⌝ }
+{
     Head {
         mode,
-        users: Joined::new(0),
-        resources: Resources::new(0),
-        inner_vertices: InnerVertices::new(0),
-        inner_tokens: InnerTokens::new(0),
-        outer_vertices: OuterVertices::new(0),
-        outer_tokens: OuterTokens::new(0),
+        users: Joined(0),
+        resources: Resources(0),
+        inner_vertices: InnerVertices(0),
+        inner_tokens: InnerTokens(0),
+        outer_vertices: OuterVertices(0),
+        outer_tokens: OuterTokens(0),
     }
 }
 
@@ -55,8 +62,9 @@ struct State {
 
 // Where no whole line is left: the answers go out before more input is waited for.
 fn wait(s: State, input: &mut [u8], out: &mut [u8]) -> State
-    requires { ⌜ Holds s (now input) (now out) ⌝ }
-    ensures { λ r. ⌜ Holds r (now (input .exit)) (now (out .exit)) ⌝ }
+    requires { ⌜ Waits s (now input) (now out) ⌝ }
+    ensures { λ r. ⌜ Waits r (now (input .exit)) (now (out .exit)) ⌝ }
+    ensures { λ r. ⌜ r .head ≡ s .head ⌝ }
 {
     let filled = s.filled;
     let head = s.head;
@@ -78,6 +86,57 @@ fn wait(s: State, input: &mut [u8], out: &mut [u8]) -> State
     }
 }
 
+// After a block's answers: the program ends where they could not be written.
+fn printed(head: Head, unread: Unread, p: Printed) -> State
+    ensures { λ r. ⌜ Printing r head unread p ⌝ }
+{
+    match p {
+        Printed::To(filled) => State {
+            head,
+            unread,
+            filled,
+            going: true,
+        },
+        Printed::Failed => State {
+            head,
+            unread,
+            filled: 0,
+            going: false,
+        },
+    }
+}
+
+// The requests of a block are served, and their answers printed.
+fn answer_block(
+    s: State,
+    iv: &mut [u8],
+    it: &mut [u8],
+    ov: &mut [u8],
+    ot: &mut [u8],
+    rs: &mut [u8],
+    requests: &[u64],
+    answers: &mut [u16],
+    orders: &mut [u16],
+    out: &mut [u8],
+) -> State
+    requires { ⌜ Ready (s .head) (tables (now iv) (now it) (now ov) (now ot) (now rs)) ⌝ }
+    requires { ⌜ Enough (now requests) (now answers) (now orders) ⌝ }
+    requires { ⌜ s .filled ≤ length (now out) ⌝ }
+    ensures { λ r. ⌜ Ready (r .head) (tables (now (iv .exit)) (now (it .exit)) (now (ov .exit)) (now (ot .exit)) (now (rs .exit))) ⌝ }
+    ensures { λ r. ⌜ r .unread ≡ s .unread ⌝ }
+    ensures { λ r. ⌜ r .filled ≤ length (now (out .exit)) ⌝ }
+{
+    let head = s.head;
+    let unread = s.unread;
+    let end = requests.len();
+    let served = serve_block(head, iv, it, ov, ot, rs, requests, answers, orders);
+    let Served::Done(after, _) = served else {
+        return s;
+    };
+    let p = print_block(requests, &answers[..end], orders, out, s.filled);
+    printed(after, unread, p)
+}
+
 // The whole lines at hand, as many as one call serves.
 fn turn(
     s: State,
@@ -92,55 +151,35 @@ fn turn(
     input: &mut [u8],
     out: &mut [u8],
 ) -> State
-    requires { ⌜ Holds s (now input) (now out) ⌝ }
-    requires { ⌜ 384 ≤ length (now requests) ⌝ }
-    requires { ⌜ 384 ≤ length (now answers) ⌝ }
-    ensures { λ r. ⌜ Holds r (now (input .exit)) (now (out .exit)) ⌝ }
+    requires { ⌜ Holds s (tables (now iv) (now it) (now ov) (now ot) (now rs)) (now input) (now out) ⌝ }
+    requires { ⌜ Lent (now requests) (now answers) (now orders) ⌝ }
+    ensures { λ r. ⌜ Holds r (tables (now (iv .exit)) (now (it .exit)) (now (ov .exit)) (now (ot .exit)) (now (rs .exit))) (now (input .exit)) (now (out .exit)) ⌝ }
 {
-    let unread = s.unread;
-    let head = s.head;
-    let filled = s.filled;
-    let b = read_block(input, unread, requests);
-    let rows = b.rows;
-    if rows == 0 {
-        let unread = b.unread;
-        return wait(
-            State {
-                head,
-                unread,
-                filled,
-                going: true,
-            },
-            input,
-            out,
-        );
-    }
-    let end = rows * 3;
-    let served = serve_block(head, iv, it, ov, ot, rs, &requests[..end], answers, orders);
+    let b = read_block(input, s.unread, requests);
     let unread = b.unread;
-    let Served::Done(head, _) = served else {
-        return State {
-            head,
-            unread,
-            filled,
-            going: false,
-        };
-    };
-    let p = print_block(requests, &answers[..end], orders, out, filled);
-    let Printed::To(filled) = p else {
-        return State {
-            head,
-            unread,
-            filled: 0,
-            going: false,
-        };
-    };
-    State {
+    let head = s.head;
+    let next = State {
         head,
         unread,
-        filled,
+        filled: s.filled,
         going: true,
+    };
+    let end = b.rows * 3;
+    if end == 0 {
+        return wait(next, input, out);
     }
+    answer_block(
+        next,
+        iv,
+        it,
+        ov,
+        ot,
+        rs,
+        &requests[..end],
+        answers,
+        orders,
+        out,
+    )
 }
 
 // The turns are counted down from a number that no run uses up: nothing says that the input ends.
@@ -153,7 +192,7 @@ fn answer_all(
     rs: &mut [u8],
     input: &mut [u8],
 )
-    requires { ⌜ Starts s (now input) ⌝ }
+    requires { ⌜ Starts s (tables (now iv) (now it) (now ov) (now ot) (now rs)) (now input) ⌝ }
 {
     let mut requests = [0u64; BLOCK * 3];
     let mut answers = [0u16; BLOCK * 3];

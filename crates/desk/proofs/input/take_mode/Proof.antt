@@ -1,4 +1,5 @@
 -- `desk::input::take_mode` meets its contract. Assumes nothing.
+use Rattle.desk.proofs.Laws.{moded}
 use native.Mathlib.Omega.{arith}
 use borrow.Author.Tests.{eqb-false}
 use borrow.Author.Needs.{needs}
@@ -39,7 +40,7 @@ add-t8 : tie.Need-add-t8
 add-t8 c = search needs
 
 returns-2 : tie.Need-returns-2
-returns-2 c = record { ordered = omega (arith, eqb-false); inside = omega arith }
+returns-2 c = (record { ordered = omega (arith, eqb-false); inside = omega arith }, moded _ (c .read-mode .ensures))
 
 pub take-mode-spec : {M : Type 1} → statement M
 take-mode-spec =
