@@ -1,5 +1,3 @@
-pub mod WriteLaws
-pub mod RelockLaws
 pub mod WorksLaws
 pub mod ApplyLaws
 pub mod GrantWorks

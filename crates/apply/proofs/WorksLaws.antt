@@ -29,7 +29,7 @@ use Rattle.layer.specs.Make.{Fits, VertexFor}
 use Rattle.layer.specs.declared.walk.Shape.{Shape}
 use Rattle.layer.specs.declared.make.Made.{Made}
 use Rattle.layer.proofs.Read.{length-resources, layer-sets, layer-tokens}
-use Rattle.apply.specs.Write.{Resources, ResourceAdded, listed, locked}
+use Rattle.write.specs.Write.{Resources, ResourceAdded, listed, locked}
 use Rattle.plan.specs.Judge.{innerShape, outerShape}
 use Rattle.apply.specs.Step.{withInner, withOuter}
 use Rattle.apply.specs.Apply.{Grown, Past, Rest, Works, lockWith, LockRoom, Accepted, applied}

@@ -1,4 +1,3 @@
-pub mod Write
 pub mod Step
 pub mod Apply
 pub mod Grant

@@ -3,8 +3,6 @@
 use crate::grant::apply_grant;
 use crate::step::lock_with;
 use crate::step::with_inner;
-use crate::write::add_resource;
-use crate::write::relist;
 use layer::cover::put_order;
 use layer::make::vertex_for;
 use layer::table::put_set;
@@ -21,6 +19,8 @@ use rules::Resource;
 use rules::Resources;
 use sets::User;
 use sets::Users;
+use write::add_resource;
+use write::relist;
 ghost use mathlib.Core.Path.{_≡_};
 ghost use Rattle.rules.specs.Bytes.{tables, bookIn};
 ghost use Rattle.rules.specs.Refusals.{joins, inserts, revokes};
@@ -30,7 +30,6 @@ ghost use Rattle.apply.specs.Apply.{Accepted, applied};
 
 pub mod grant;
 pub mod step;
-pub mod write;
 
 // The head after a request, and how many orders it gave.
 pub struct Applied {

@@ -283,7 +283,7 @@ opens SelLocked e = cc
 opens BelLocked e = cc
 opens Locked e = cc
 
-length-opened : (b : Book) (u r : ℕ) {k : Lengths} → k ≡ lengthsOf b u r → k .inner + k .outer ≡ length (opened b u r)
+pub length-opened : (b : Book) (u r : ℕ) {k : Lengths} → k ≡ lengthsOf b u r → k .inner + k .outer ≡ length (opened b u r)
 unfolding opened
 length-opened b u r e = rw e (sym (length-append (innerChain b u r) (outerChain b u r)))
 
@@ -340,6 +340,46 @@ module _ (b : Book) (u r room : ℕ) where
       go (some x) e = (cc, cc)
       go none e = (refl, cc)
 
+-- an open as it is judged, in tables that are ready
+module _ (h : Head) (t : Tables) (u r : ℕ) (ready : Ready h t) (room : ℕ) {j : Openable} (ej : j ≡ openable (bookIn h t) u r room) where
+  abbrev J : Book
+  J = bookIn h t
+
+  past-common : refusalOpen t J room u r ≡ verdict (ownOpen J u r room)
+  unfolding refusalOpen
+  past-common = common-passed t J (ownOpen J u r room) (ready .long) (ready .sound′)
+
+  pub judged-no : {n : Refusal} → j ≡ No n → refusalOpen t J room u r ≡ some n
+  judged-no e = past-common ∙ refused J u r room (sym ej ∙ e)
+
+  module _ {c : Lengths} (ec : j ≡ Go c) where
+    pub judged-go : (refusalOpen t J room u r ≡ none) × (c ≡ lengthsOf J u r)
+    judged-go = let (e, k) = passed J u r room (sym ej ∙ ec) in (past-common ∙ e, k)
+
+    none-holds : (noSuch J u r ≡ false) × (view J u r ≡ Open) × (length (opened J u r) ≤ room)
+    none-holds =
+        let (e, p) = verdict-none NoSuch (noSuch J u r) _ (passed J u r room (sym ej ∙ ec) .0) in
+        let (f, q) = verdict-none (Closed (view J u r)) (not (eqb (viewNumber (view J u r)) 0)) _ p in
+        let (g, _) = verdict-none ShortList (ltb room (length (opened J u r))) _ q in
+        (e, opens (view J u r) f, ltb-false room (length (opened J u r)) g)
+
+    pub judged-room : length (opened J u r) ≤ room
+    judged-room = none-holds .2
+
+    pub judged-opening : Opening h t u r
+    judged-opening =
+        let (a, l) = such J u r (none-holds .0) in
+        record {
+          ready = ready;
+          user = rw (users-count h (t .innerVertices) (t .innerTokens) (t .outerVertices) (t .outerTokens) (t .resources)) at a;
+          there = rw (resources-count h (t .innerVertices) (t .innerTokens) (t .outerVertices) (t .outerTokens) (t .resources)) at l;
+          opens = none-holds .1;
+        }
+
+    -- the counts are small
+    pub judged-few : (c .inner < 64) × (c .outer < 64)
+    judged-few = few h (t .innerVertices) (t .innerTokens) (t .outerVertices) (t .outerTokens) (t .resources) u r judged-opening (judged-go .1)
+
 -- ---- the calls
 
 -- the answer of the check
@@ -386,39 +426,25 @@ module _ (h : Head) (t : Tables) (u r : ℕ) {k : Checked} (ek : k ≡ checked h
       view-told e q = rw (past ((NoSuch, noSuch B u r) ∷ []), such-is h t u r ez e, q)
 
     module _ (list : List ℕ) {j : Openable} (ej : j ≡ openable B u r (length list)) where
+      ready : Ready h t
+      ready = checked-ready h t ek es
+
       pub open-no : {n : Refusal} → j ≡ No n → showing (shown.No n) list ≡ openCall u r h t list
-      unfolding openCall openBy refusalOpen
-      open-no e = rw (past (ownOpen B u r (length list)), refused B u r (length list) (sym ej ∙ e))
+      unfolding openCall openBy
+      open-no e = rw (judged-no h t u r ready (length list) ej e)
 
       module _ {c : Lengths} (ec : j ≡ Go c) where
-        go : (verdict (ownOpen B u r (length list)) ≡ none) × (c ≡ lengthsOf B u r)
-        go = passed B u r (length list) (sym ej ∙ ec)
-
-        none-holds : (noSuch B u r ≡ false) × (view B u r ≡ Open) × (length (opened B u r) ≤ length list)
-        none-holds =
-            let (e, p) = verdict-none NoSuch (noSuch B u r) _ (go .0) in
-            let (f, q) = verdict-none (Closed (view B u r)) (not (eqb (viewNumber (view B u r)) 0)) _ p in
-            let (g, _) = verdict-none ShortList (ltb (length list) (length (opened B u r))) _ q in
-            (e, opens (view B u r) f, ltb-false (length list) (length (opened B u r)) g)
-
-        open-opens : Opening h t u r
-        open-opens =
-            let (a, l) = such B u r (none-holds .0) in
-            record {
-              ready = checked-ready h t ek es;
-              user = rw (users-count h (t .innerVertices) (t .innerTokens) (t .outerVertices) (t .outerTokens) (t .resources)) at a;
-              there = rw (resources-count h (t .innerVertices) (t .innerTokens) (t .outerVertices) (t .outerTokens) (t .resources)) at l;
-              opens = none-holds .1;
-            }
+        go : (refusalOpen t B (length list) u r ≡ none) × (c ≡ lengthsOf B u r)
+        go = judged-go h t u r ready (length list) ej ec
 
         -- what writing the chains asks
         pub open-asks : Opening h t u r × ((c .inner ≡ length (innerChain B u r)) × (length (opened B u r) ≤ length list))
-        open-asks = (open-opens, (ap (λ (x : Lengths). x .inner) (go .1), none-holds .2))
+        open-asks = (judged-opening h t u r ready (length list) ej ec, (ap (λ (x : Lengths). x .inner) (go .1), judged-room h t u r ready (length list) ej ec))
 
         -- the answer's counts are small
         pub open-few : (c .inner < 64) × (c .outer < 64)
-        open-few = few h (t .innerVertices) (t .innerTokens) (t .outerVertices) (t .outerTokens) (t .resources) u r open-opens (go .1)
+        open-few = judged-few h t u r ready (length list) ej ec
 
         pub open-shown : {list′ : List ℕ} → list′ ≡ stored 0 (opened B u r) list → showing (shown.Chains (c .inner) (c .outer)) list′ ≡ openCall u r h t list
-        unfolding openCall openBy refusalOpen
-        open-shown q = rw (past (ownOpen B u r (length list)), go .0, go .1, q)
+        unfolding openCall openBy
+        open-shown q = rw (go .0, go .1, q)

@@ -25,12 +25,11 @@ use Rattle.rules.specs.declared.Refusal.the-variants.{NoSuch, ShortList}
 use Rattle.rules.specs.declared.Served.the-variants.{Done, No}
 use Rattle.theorems.proofs.ListLaws.{length-tabulate, getD-tabulate}
 use Rattle.theorems.proofs.ByteLaws.{SameLengths}
-use Rattle.theorems.proofs.RequestLaws.{Rows, such, common-passed}
+use Rattle.theorems.proofs.RequestLaws.{Rows, such, common-passed, verdict-first}
 use Rattle.theorems.proofs.SoundLaws.{Counts, sound-counts}
 use Rattle.theorems.proofs.ServeLaws.{ownOrders, one-gives, ready-one, ready-refusal, ready-open}
 use Rattle.theorems.proofs.ServeLaws as laws
 use Rattle.plan.specs.Judge.{Ready}
-use Rattle.plan.proofs.JudgeLaws.{verdict-first}
 use Rattle.sound.specs.Check.{checked}
 use Rattle.sound.specs.declared.Checked.{Checked}
 use Rattle.sound.specs.declared.Checked.the-variants as checks

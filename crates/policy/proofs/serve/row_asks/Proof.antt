@@ -1,0 +1,58 @@
+-- `policy::serve::row_asks` meets its contract. Assumes nothing.
+use Prim.Native.Nat.{_≤_}
+use mathlib.Core.Logic.{⊎-elim, inl, inr}
+use native.Mathlib.Omega.{arith}
+use borrow.Author.Needs.{needs}
+use borrow.Author.Tests.{ltb-true, ltb-false, ne-eqb}
+use Rattle.rules.specs.Calls.{asked}
+use Rattle.policy.specs.Serve.{narrow}
+use Rattle.policy.proofs.AskedLaws.{row-pair, row-wide}
+use Rattle.policy.proofs.serve.row_asks.Statement.{statement}
+use Rattle.policy.proofs.serve.row_asks.Tie as tie
+
+-- the kind is neither 0 nor 1
+above : (c : tie.Else2) → 2 ≤ c .before .before .args .kind
+above c = omega (arith, c .before .if1 .left, c .if2 .left)
+
+returns : tie.Need-returns
+unfolding narrow asked
+returns c = rw (c .if1 .taken)
+
+returns-2 : tie.Need-returns-2
+unfolding narrow asked
+returns-2 c = rw (c .before .if2 .taken, c .if3 .taken)
+
+returns-3 : tie.Need-returns-3
+unfolding narrow asked
+returns-3 c = rw (c .before .if2 .taken, ne-eqb _ _ (c .if3 .left))
+
+returns-4 : tie.Need-returns-4
+returns-4 c = row-wide _ _ _ (above (c .before)) (⊎-elim (λ w. inl (w .taken)) (λ w. inr (ltb-true _ _ (w .1 .taken))) (c .if4 .came))
+
+cast-pair-asks : tie.Need-cast-pair-asks
+cast-pair-asks c = search needs
+
+cast-pair-asks-2 : tie.Need-cast-pair-asks-2
+cast-pair-asks-2 c = search needs
+
+pair-asks-requires : tie.Need-pair-asks-requires
+pair-asks-requires c κs = above (c .before .before)
+
+returns-5 : tie.Need-returns-5
+returns-5 c =
+    let a = c .before .before .before .before .before .args in
+    row-pair (a .kind) (a .a) (a .b) (above (c .before .before .before)) (omega arith) (omega (arith, ltb-false 65535 (a .b) (c .before .if5 .left)))
+    (c .pair-asks .ensures)
+
+pub row-asks-spec : {M : Type 1} → statement M
+row-asks-spec =
+    tie.close
+    (tie.spec
+    returns
+    returns-2
+    returns-3
+    returns-4
+    cast-pair-asks
+    cast-pair-asks-2
+    pair-asks-requires
+    returns-5)
