@@ -2,19 +2,16 @@
 // The five tables are iv, it, ov, ot, rs: inner vertices and tokens, outer vertices and tokens, resources.
 mod block;
 mod input;
+mod memory;
 mod output;
 
-use block::BLOCK;
-use block::ORDERS;
 use block::read_block;
 use block::serve_block;
-use input::INPUT;
 use input::Unread;
 use input::read_first;
 use input::read_more;
 use input::take_mode;
 use lines::request::First;
-use output::OUTPUT;
 use output::Printed;
 use output::print_block;
 use output::refuse_start;
@@ -194,10 +191,10 @@ fn answer_all(
 )
     requires { ⌜ Starts s (tables (now iv) (now it) (now ov) (now ot) (now rs)) (now input) ⌝ }
 {
-    let mut requests = [0u64; BLOCK * 3];
-    let mut answers = [0u16; BLOCK * 3];
-    let mut orders = [0u16; ORDERS * 3];
-    let mut out = [0u8; OUTPUT];
+    let mut requests = memory::request_rows();
+    let mut answers = memory::answer_rows();
+    let mut orders = memory::order_rows();
+    let mut out = memory::output_bytes();
     let mut state = s;
     let mut turns = u64::MAX;
     while turns > 0 && state.going {
@@ -219,7 +216,7 @@ fn answer_all(
 }
 
 fn main() {
-    let mut input = [0u8; INPUT];
+    let mut input = memory::input_bytes();
     let unread = read_first(&mut input);
     let t = take_mode(&input, unread);
     let first = t.first;
@@ -228,11 +225,11 @@ fn main() {
         refuse_start();
         return;
     };
-    let mut iv = [0u8; InnerVertices::LIMIT as usize * InnerVertices::WIDTH];
-    let mut it = [0u8; InnerTokens::LIMIT as usize * InnerTokens::WIDTH];
-    let mut ov = [0u8; OuterVertices::LIMIT as usize * OuterVertices::WIDTH];
-    let mut ot = [0u8; OuterTokens::LIMIT as usize * OuterTokens::WIDTH];
-    let mut rs = [0u8; Resources::LIMIT as usize * Resources::WIDTH];
+    let mut iv = memory::inner_vertices();
+    let mut it = memory::inner_tokens();
+    let mut ov = memory::outer_vertices();
+    let mut ot = memory::outer_tokens();
+    let mut rs = memory::resources();
     let s = State {
         head: empty_head(mode),
         unread,

@@ -51,8 +51,7 @@ slice-aggregate-answer-block c = sym (length-take-le _ _ (omega (arith, c .befor
 answer-block-requires : tie.Need-answer-block-requires
 answer-block-requires c κs =
     let s = c .before .before .before .before .before .before .before .before .before .before .before .before .before .before .before .before .before .before .before .before .before .before .before .before .before .before .before .before in
-    let read = c .before .before .before .before .before .before .before .before .before .before .before .before .before .before .before .read-block in
-    (
+    let read = c .before .before .before .before .before .before .before .before .before .before .before .before .before .before .before .read-block in (
       s .pre .0 .ready,
       (
         enough (read .result .rows) (read .last .1 .1 .0) (read .ensures .1 .0) (omega (arith, read .kept .1 .1 .0, s .pre .1 .asked)) (s .pre .1 .told) (s .pre .1 .rows) (read .ensures .1 .1),

@@ -1,3 +1,4 @@
+use Rattle.desk.proofs.BlockLaws.{block-served}
 use borrow.Author.Needs.{needs}
 use Rattle.desk.proofs.block.serve_block.Statement.{statement}
 use Rattle.desk.proofs.block.serve_block.Tie as tie
@@ -39,7 +40,7 @@ same-length-7 c = search needs
 
 -- src/block.rt:119:1
 returns : tie.Need-returns
-returns c = ?
+returns c = block-served _ _ _ _ _ (c .before .before .before .before .before .before .before .before .before .before .before .before .before .before .before .before .before .before .before .before .before .before .before .before .before .before .before .before .before .before .pre .0) (c .before .before .before .before .before .before .before .before .before .before .before .before .before .before .before .before .before .before .before .before .before .before .before .before .before .before .before .before .before .before .pre .1) (c .before .before .before .before .before .before .before .before .before .before .before .before .before .before .serve .ensures)
 
 pub serve-block-spec : {M : Type 1} → statement M
 serve-block-spec =
