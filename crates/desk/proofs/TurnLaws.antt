@@ -9,7 +9,6 @@ use lib.ListN.{length, take}
 use lib.Seq.{length-take-le}
 use borrow.Author.Tests.{le-ltb}
 use Rattle.rules.specs.Book.{emptyBook}
-use Rattle.rules.specs.Sound.{maxUsers, maxResources, maxTokens, maxGroups}
 use Rattle.rules.specs.Bytes.{Tables, tables, headOf}
 use Rattle.rules.specs.Refusals.{short}
 use Rattle.rules.specs.Runs.{bookOf}
@@ -60,7 +59,7 @@ mode-named {f} e x = subst Moded e x
 
 module _ (iv it ov ot rs : List ℕ) (a : 2560 ≡ length iv) (b : 20480 ≡ length it) (c : 4096 ≡ length ov) (d : 16384 ≡ length ot) (e : 3072 ≡ length rs) where
   all-long : short (tables iv it ov ot rs) ≡ false
-  unfolding short maxUsers maxResources maxTokens maxGroups
+  unfolding short
   all-long =
       rw (
         le-ltb (length iv) 2560 (omega arith),
