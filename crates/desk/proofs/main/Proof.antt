@@ -1,0 +1,111 @@
+-- `desk::main` is safe and ends: the program starts from the empty book. Assumes nothing.
+use Rattle.desk.proofs.TurnLaws.{mode-named, fresh-ready}
+use native.Mathlib.Omega.{arith}
+use mathlib.Core.Path.{refl}
+use borrow.Author.Needs.{needs}
+use Rattle.desk.proofs.main.Statement.{statement}
+use Rattle.desk.proofs.main.Tie as tie
+
+input-bytes-requires : tie.Need-input-bytes-requires
+input-bytes-requires c κs = search needs
+
+slice-aggregate-read-first : tie.Need-slice-aggregate-read-first
+slice-aggregate-read-first c = search needs
+
+read-first-requires : tie.Need-read-first-requires
+read-first-requires c κs = search needs
+
+slice-aggregate-take-mode : tie.Need-slice-aggregate-take-mode
+slice-aggregate-take-mode c = search needs
+
+take-mode-requires : tie.Need-take-mode-requires
+take-mode-requires c κs = search needs
+
+enum-known-first : tie.Need-enum-known-first
+enum-known-first c = search needs
+
+enum-told : tie.Need-enum-told
+enum-told c = search needs
+
+refuse-start-requires : tie.Need-refuse-start-requires
+refuse-start-requires c κs = search needs
+
+returns : tie.Need-returns
+returns c = search needs
+
+inner-vertices-requires : tie.Need-inner-vertices-requires
+inner-vertices-requires c κs = search needs
+
+inner-tokens-requires : tie.Need-inner-tokens-requires
+inner-tokens-requires c κs = search needs
+
+outer-vertices-requires : tie.Need-outer-vertices-requires
+outer-vertices-requires c κs = search needs
+
+outer-tokens-requires : tie.Need-outer-tokens-requires
+outer-tokens-requires c κs = search needs
+
+resources-requires : tie.Need-resources-requires
+resources-requires c κs = search needs
+
+empty-head-requires : tie.Need-empty-head-requires
+empty-head-requires c κs = search needs
+
+slice-aggregate-answer-all : tie.Need-slice-aggregate-answer-all
+slice-aggregate-answer-all c = search needs
+
+slice-aggregate-answer-all-2 : tie.Need-slice-aggregate-answer-all-2
+slice-aggregate-answer-all-2 c = search needs
+
+slice-aggregate-answer-all-3 : tie.Need-slice-aggregate-answer-all-3
+slice-aggregate-answer-all-3 c = search needs
+
+slice-aggregate-answer-all-4 : tie.Need-slice-aggregate-answer-all-4
+slice-aggregate-answer-all-4 c = search needs
+
+slice-aggregate-answer-all-5 : tie.Need-slice-aggregate-answer-all-5
+slice-aggregate-answer-all-5 c = search needs
+
+slice-aggregate-answer-all-6 : tie.Need-slice-aggregate-answer-all-6
+slice-aggregate-answer-all-6 c = search needs
+
+answer-all-requires : tie.Need-answer-all-requires
+answer-all-requires c κs =
+    let taken = c .before .before .before .before .before .before .before .before .before .before .before .before .before .before .before .before .take-mode in
+    record {
+      ready = fresh-ready _ _ _ _ _ (c .before .before .before .before .before .before .before .before .before .before .before .inner-vertices .ensures) (c .before .before .before .before .before .before .before .before .before .before .inner-tokens .ensures) (c .before .before .before .before .before .before .before .before .before .outer-vertices .ensures) (c .before .before .before .before .before .before .before .before .outer-tokens .ensures) (c .before .before .before .before .before .before .before .resources .ensures) _ (mode-named (c .before .before .before .before .before .before .before .before .before .before .before .before .before .first .given .1) (taken .ensures .1)) (c .before .before .before .before .before .before .empty-head .ensures);
+      within = taken .ensures .0;
+      long = omega (arith, c .before .before .before .before .before .before .before .before .before .before .before .before .before .before .before .before .before .before .before .read-first .kept .0, c .before .before .before .before .before .before .before .before .before .before .before .before .before .before .before .before .before .before .before .before .before .input-bytes .ensures);
+      none = refl;
+    }
+
+returns-2 : tie.Need-returns-2
+returns-2 c = search needs
+
+pub main-spec : {M : Type 1} → statement M
+main-spec =
+    tie.close
+    (tie.spec
+    input-bytes-requires
+    slice-aggregate-read-first
+    read-first-requires
+    slice-aggregate-take-mode
+    take-mode-requires
+    enum-known-first
+    enum-told
+    refuse-start-requires
+    returns
+    inner-vertices-requires
+    inner-tokens-requires
+    outer-vertices-requires
+    outer-tokens-requires
+    resources-requires
+    empty-head-requires
+    slice-aggregate-answer-all
+    slice-aggregate-answer-all-2
+    slice-aggregate-answer-all-3
+    slice-aggregate-answer-all-4
+    slice-aggregate-answer-all-5
+    slice-aggregate-answer-all-6
+    answer-all-requires
+    returns-2)

@@ -1,0 +1,165 @@
+-- `desk::output::print_block` meets its contract. The invariant: the order rows that the answers left count are still to come. Assumes nothing.
+use Prim.Native.Nat.{ℕ, _+_, _*_, _-_, _≤_}
+use mathlib.Core.Path.{_≡_, refl, _∙_, ap}
+use native.Mathlib.Omega.{arith}
+use lib.ListN.{length, drop}
+use borrow.Author.Needs.{needs}
+use mathlib.Core.List.{List}
+use Rattle.desk.specs.Output.{counts, filledTo}
+use Rattle.desk.proofs.Laws.{counts-next}
+use Rattle.desk.proofs.output.print_block.Statement.{statement}
+use Rattle.desk.proofs.output.print_block.Tie as tie
+
+abbrev Inv-loop : tie.InvT-loop
+Inv-loop requests answers orders out₀ filled end₀ used₀ at₀ out end used at = (at ≤ length answers) × (used + counts (drop at answers) * 3 ≤ length orders) × (end ≤ length out) × (length out ≡ length out₀)
+
+abbrev μ-loop : tie.MeasureT-loop
+μ-loop requests answers orders out₀ filled end₀ used₀ at₀ out end used at = length answers - at
+
+abbrev answers-of : tie.After-wide Inv-loop μ-loop → List ℕ
+answers-of c = c .before .before .before .before .before .before .before .before .before .before .before .before .args .answers .now
+
+abbrev orders-of : tie.After-wide Inv-loop μ-loop → List ℕ
+orders-of c = c .before .before .before .before .before .before .before .before .before .before .before .before .args .orders .now
+
+-- an answer's stretch and those of the answers behind it lie within the list
+used-more : (c : tie.After-wide Inv-loop μ-loop)
+    → c .before .before .before .before .before .before .before .loop .used + c .wide .result * 3
+    + counts (drop (c .before .before .before .before .before .before .before .loop .at + 3) (answers-of c)) * 3 ≤ length (orders-of c)
+used-more c =
+    let l = c .before .before .before .before .before .before .before .loop in
+    omega (arith, counts-next (answers-of c) (l .at) (omega arith), c .wide .ensures, l .inv .1)
+
+loop-holds : tie.Need-loop-holds Inv-loop μ-loop
+loop-holds c = (omega arith, omega (arith, c .before .before .before .before .pre), omega arith, refl)
+
+sub-loop : tie.Need-sub-loop Inv-loop μ-loop
+sub-loop c = omega arith
+
+mul-number-told : tie.Need-mul-number-told Inv-loop μ-loop
+mul-number-told c = omega arith
+
+shared-slice-read-number-told : tie.Need-shared-slice-read-number-told Inv-loop μ-loop
+shared-slice-read-number-told c = omega arith
+
+mul-number-told-2 : tie.Need-mul-number-told-2 Inv-loop μ-loop
+mul-number-told-2 c = omega arith
+
+shared-slice-read-number-told-2 : tie.Need-shared-slice-read-number-told-2 Inv-loop μ-loop
+shared-slice-read-number-told-2 c = omega arith
+
+number-told-requires : tie.Need-number-told-requires Inv-loop μ-loop
+number-told-requires c κs = tt
+
+add-view : tie.Need-add-view Inv-loop μ-loop
+add-view c = omega arith
+
+mul-view : tie.Need-mul-view Inv-loop μ-loop
+mul-view c = omega arith
+
+shared-slice-read-view : tie.Need-shared-slice-read-view Inv-loop μ-loop
+shared-slice-read-view c = omega arith
+
+add-wide : tie.Need-add-wide Inv-loop μ-loop
+add-wide c = omega arith
+
+mul-wide : tie.Need-mul-wide Inv-loop μ-loop
+mul-wide c = omega arith
+
+shared-slice-read-wide : tie.Need-shared-slice-read-wide Inv-loop μ-loop
+shared-slice-read-wide c = omega arith
+
+wide-requires : tie.Need-wide-requires Inv-loop μ-loop
+wide-requires c κs = tt
+
+mul-next : tie.Need-mul-next Inv-loop μ-loop
+mul-next c = omega (arith, used-more c)
+
+add-next : tie.Need-add-next Inv-loop μ-loop
+add-next c = omega (arith, used-more c)
+
+mul-print-answer : tie.Need-mul-print-answer Inv-loop μ-loop
+mul-print-answer c = omega (arith, used-more c)
+
+sub-print-answer : tie.Need-sub-print-answer Inv-loop μ-loop
+sub-print-answer c = omega arith
+
+part-print-answer-start : tie.Need-part-print-answer-start Inv-loop μ-loop
+part-print-answer-start c = omega (arith, used-more c)
+
+part-print-answer-end : tie.Need-part-print-answer-end Inv-loop μ-loop
+part-print-answer-end c = omega (arith, used-more c)
+
+print-answer-requires : tie.Need-print-answer-requires Inv-loop μ-loop
+print-answer-requires c κs = c .before .before .before .before .before .before .before .before .before .loop .inv .2
+
+enum-known-p : tie.Need-enum-known-p Inv-loop μ-loop
+enum-known-p c = search needs
+
+enum-told : tie.Need-enum-told Inv-loop μ-loop
+enum-told c = search needs
+
+same-length : tie.Need-same-length Inv-loop μ-loop
+same-length c =
+    let call = c .before .before .before .before .print-answer in
+    call .kept .1 .1 .1 .0 ∙ c .before .before .before .before .before .before .before .before .before .before .before .before .before .before .loop .inv .3
+
+returns : tie.Need-returns Inv-loop μ-loop
+returns c = omega arith
+
+add-at : tie.Need-add-at Inv-loop μ-loop
+add-at c = omega arith
+
+loop-less : tie.Need-loop-less Inv-loop μ-loop
+loop-less c = omega arith
+
+loop-again : tie.Need-loop-again Inv-loop μ-loop
+loop-again c =
+    let l = c .before .before .before .before .before .before .before .before .before .before .before .before .before .before .before .loop in
+    let call = c .before .before .before .before .before .print-answer in
+    let fits : filledTo (call .result) ≤ length (call .last .1 .1 .1 .0) = call .ensures in
+    let told : filledTo (call .result) ≡ c .before .p .given .0 .0 = ap filledTo (c .before .p .given .1) in
+    (omega arith, used-more (c .before .before .before .before .before .before .before .before), omega arith, call .kept .1 .1 .1 .0 ∙ l .inv .3)
+
+same-length-2 : tie.Need-same-length-2 Inv-loop μ-loop
+same-length-2 c = omega arith
+
+returns-2 : tie.Need-returns-2 Inv-loop μ-loop
+returns-2 c = omega arith
+
+pub print-block-spec : {M : Type 1} → statement M
+print-block-spec =
+    tie.close
+    (tie.spec
+    Inv-loop
+    μ-loop
+    loop-holds
+    sub-loop
+    mul-number-told
+    shared-slice-read-number-told
+    mul-number-told-2
+    shared-slice-read-number-told-2
+    number-told-requires
+    add-view
+    mul-view
+    shared-slice-read-view
+    add-wide
+    mul-wide
+    shared-slice-read-wide
+    wide-requires
+    mul-next
+    add-next
+    mul-print-answer
+    sub-print-answer
+    part-print-answer-start
+    part-print-answer-end
+    print-answer-requires
+    enum-known-p
+    enum-told
+    same-length
+    returns
+    add-at
+    loop-less
+    loop-again
+    same-length-2
+    returns-2)

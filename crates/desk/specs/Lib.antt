@@ -1,0 +1,4 @@
+pub mod Input
+pub mod Block
+pub mod Output
+pub mod Turn

@@ -1,0 +1,30 @@
+-- How far the output buffer is filled, and the order rows that answer rows count.
+-- Assumes nothing.
+use Prim.Native.Nat.{ℕ, _+_, _≤_}
+use mathlib.Core.Bool.{Bool, true, _&&_, not}
+use mathlib.Core.List.{List, [], _∷_}
+use lib.Dec.{eqb}
+use lib.ListN.{length}
+use Rattle.desk.specs.declared.output.Printed.{Printed}
+use Rattle.desk.specs.declared.output.Printed.the-variants.{To, Failed}
+
+abbrev pub filledTo : Printed → ℕ
+filledTo (To n) = n
+filledTo Failed = 0
+
+abbrev pub Filled : Printed → List ℕ → Type 0
+Filled p out = filledTo p ≤ length out
+
+-- of answer rows: number, view, count
+unfoldable pub counts : List ℕ → ℕ
+counts [] = 0
+counts (n ∷ []) = 0
+counts (n ∷ v ∷ []) = 0
+counts (n ∷ v ∷ c ∷ rows) = c + counts rows
+
+-- none of them has the number 10
+unfoldable pub neverTen : List ℕ → Bool
+neverTen [] = true
+neverTen (n ∷ []) = true
+neverTen (n ∷ v ∷ []) = true
+neverTen (n ∷ v ∷ c ∷ rows) = not (eqb n 10) && neverTen rows
