@@ -45,7 +45,6 @@ mod c {
         fn fenstubble_open(head: *const u16, head_len: usize; const tables; user: u16, resource: u16, list: *mut u16, list_len: usize, inner: *mut u16, outer: *mut u16);
     }
 
-    #[cfg(feature = "serve")]
     declare! {
         fn fenstubble_serve(head: *mut u16, head_len: usize; mut tables; requests: *const u64, requests_len: usize, answers: *mut u16, answers_len: usize, orders: *mut u16, orders_len: usize, used: *mut usize);
     }
@@ -115,14 +114,11 @@ impl Side for Engine {
             Call::Revoke(r, u) => c!(fenstubble_revoke(; lent; list, list_len, cell, r, u)),
             Call::View(u, r) => c!(fenstubble_view(; lent; u, r, cell)),
             Call::Open(u, r) => c!(fenstubble_open(; lent; u, r, list, list_len, cell, second)),
-            #[cfg(feature = "serve")]
             Call::Serve => {
                 let (requests, requests_len) = (lent.requests.as_mut_ptr(), lent.requests.len());
                 let (answers, answers_len) = (lent.answers.as_mut_ptr(), lent.answers.len());
                 c!(fenstubble_serve(; lent; requests, requests_len, answers, answers_len, list, list_len, &raw mut length))
             }
-            #[cfg(not(feature = "serve"))]
-            Call::Serve => unreachable!("the feature `serve` is off"),
         };
         match call {
             Call::Check | Call::Read => answer(code, (), |()| Given::Nothing),

@@ -1,6 +1,6 @@
 //! Join, insert, grant, revoke, view and open: runs of requests in which both
 //! sides go on from the same state, and single ones on tables that are no
-//! sound book. With the feature `serve` also several requests in one call.
+//! sound book; and several requests in one call.
 
 use std::fmt;
 
@@ -114,9 +114,6 @@ struct World {
 const NUMBERS: [u16; 14] = [
     0, 1, 62, 63, 64, 65, 254, 255, 256, 257, 32767, 32768, 65534, 65535,
 ];
-
-/// Whether the library serves several requests in one call.
-const SERVE: bool = cfg!(feature = "serve");
 
 struct Requests {
     session: Session,
@@ -582,7 +579,7 @@ impl Requests {
                 let mut world = self.world(random, sound(book));
                 self.steps(&mut world, random, 12, 64)
             }
-            33..=36 if SERVE => {
+            33..=36 => {
                 let shape = Shape::small(random);
                 let start = match random.below(3) {
                     0 => SoundBook::empty(mode),
@@ -683,7 +680,7 @@ impl Requests {
         };
         for _ in 0..3 {
             let mut lent = lent.clone();
-            let call = if SERVE && random.chance(1, 6) {
+            let call = if random.chance(1, 6) {
                 let row = odd_row(random, [4, 0, 0]);
                 lent.requests = Memory::of(&[[0; 3], row].concat()[..random.below(7)]);
                 lent.answers = Memory::of(&filler.numbers(random.below(9)));

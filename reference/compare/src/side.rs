@@ -30,7 +30,7 @@ pub enum Call {
     View(u16, u16),
     /// How a user opens a resource.
     Open(u16, u16),
-    /// Serve the request rows (in the engine with the feature `serve`).
+    /// Serve the request rows.
     Serve,
 }
 

@@ -317,7 +317,6 @@ with_tables! {
     }
 }
 
-#[cfg(feature = "serve")]
 with_tables! {
     fn fenstubble_serve(; mut lent; requests: *const u64, requests_len: usize, answers: *mut u16, answers_len: usize, orders: *mut u16, orders_len: usize, used: *mut usize) {
         let served = if planted(Fault::FirstAlone) { requests_len.min(3) } else { requests_len };

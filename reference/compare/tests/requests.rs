@@ -32,13 +32,11 @@ fn requests_alike() {
             );
         }
     }
-    if cfg!(feature = "serve") {
-        for number in [0, 10, 12, 13] {
-            assert!(summary.tally.of("serve", number) > 0, "{number}: {summary}");
-        }
-        for number in [0, 1, 4, 5, 6, 10, 11] {
-            assert!(summary.served[number] > 0, "{number}: {summary}");
-        }
+    for number in [0, 10, 12, 13] {
+        assert!(summary.tally.of("serve", number) > 0, "{number}: {summary}");
+    }
+    for number in [0, 1, 4, 5, 6, 10, 11] {
+        assert!(summary.served[number] > 0, "{number}: {summary}");
     }
     assert_eq!(summary.longest, [63, 63]);
     assert!(summary.most_orders >= 324, "{summary}");
