@@ -1,7 +1,7 @@
 -- "Its order list is long enough never to give 10": requests whose most order rows lie within the list are served without that refusal, and their
 -- answers count no more rows than the list has.
 -- Assumes nothing.
-use Prim.Native.Nat.{ℕ, zero, suc, _+_, _*_, _-_, _/_, _≤_, _<_}
+use Prim.Native.Nat.{ℕ, zero, suc, _+_, _*_, _/_, _≤_, _<_}
 use mathlib.Core.Path.{_≡_, refl, sym, ap, ap₂, _∙_}
 use mathlib.Core.Bool.{Bool, true, false, _&&_, _||_, not, cond}
 use mathlib.Core.Logic.{_⊎_, inl, inr}
@@ -9,7 +9,7 @@ use mathlib.Core.List.{List, [], _∷_, _++_}
 use mathlib.Core.Option.{Option, some, none, Option·some-ne-none}
 use native.Mathlib.Omega.{arith}
 use lib.Dec.{eqb, ltb}
-use lib.ListN.{length, take, drop, getD, length-append, length-drop}
+use lib.ListN.{length, take, drop, getD, length-drop}
 use borrow.Author.Tests.{le-ltb, eqb-true, eqb-false, not-true, not-false, ltb-true, ne-eqb}
 use Rattle.sets.proofs.Laws.{both, either}
 use Rattle.rows.specs.Number.{stored}
@@ -35,7 +35,7 @@ use Rattle.theorems.proofs.ListLaws.{length-tabulate}
 use Rattle.theorems.proofs.ViewLaws.{view-open}
 use Rattle.theorems.proofs.OpensLaws.{opens-list}
 use Rattle.theorems.proofs.OrderLaws.{mostRows, rows-enough, open-rows}
-use Rattle.theorems.proofs.CallLaws.{keptOne, all-leads}
+use Rattle.theorems.proofs.CallLaws.{all-leads}
 use Rattle.theorems.proofs.ServeLaws.{Ready, ready-one, ready-refusal, ready-open, ownOrders, each, one-gives, all-serves}
 use Rattle.plan.specs.Judge as plan
 use Rattle.desk.specs.Block.{mostOf, mostIn, Enough, Answered}

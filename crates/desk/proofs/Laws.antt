@@ -1,6 +1,6 @@
 -- Laws of the buffers: where an answer ends in the output, and the rows of three numbers in a list.
 -- Assumes nothing.
-use Prim.Native.Nat.{ℕ, zero, suc, _+_, _*_, _-_, _%_, _≤_, _<_}
+use Prim.Native.Nat.{ℕ, zero, suc, _+_, _*_, _%_, _≤_}
 use mathlib.Core.Path.{_≡_, refl, sym, ap, _∙_}
 use mathlib.Core.Bool.{Bool, true, false, cond}
 use mathlib.Core.List.{List, [], _∷_, _++_, append-assoc}
@@ -12,7 +12,6 @@ use borrow.Author.Tests.{ltb-true}
 use Rattle.rows.specs.Number.{stored}
 use Rattle.rules.specs.Lists.{first}
 use Rattle.lines.specs.Answer.{answerText, roomFor, writing, Written, putAnswer}
-use Rattle.lines.specs.declared.answer.Put.{Put}
 use Rattle.lines.specs.declared.answer.Put.the-variants.{To, Full}
 use Rattle.lines.proofs.Passed.{next}
 use Rattle.lines.specs.Request.{same, modes, modeOf, firstLine}

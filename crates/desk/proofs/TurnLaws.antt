@@ -1,7 +1,7 @@
 -- What a turn keeps: laws over plain variables.
 -- Assumes nothing.
-use Prim.Native.Nat.{ℕ, _+_, _*_, _%_, _/_, _≤_, _<_}
-use mathlib.Core.Path.{_≡_, refl, sym, ap, _∙_, subst}
+use Prim.Native.Nat.{ℕ, _*_, _≤_}
+use mathlib.Core.Path.{_≡_, sym, subst}
 use mathlib.Core.Bool.{false}
 use mathlib.Core.List.{List}
 use native.Mathlib.Omega.{arith}
@@ -23,11 +23,9 @@ use Rattle.lines.specs.declared.request.First.{First}
 use Rattle.lines.specs.declared.request.First.the-variants.{Of}
 use Rattle.desk.specs.Input.{Within, Moded}
 use Rattle.desk.specs.Block.{mostIn, Enough, Serves}
-use Rattle.desk.specs.Output.{filledTo}
-use Rattle.desk.specs.Turn.{Holds, Waits, Lent, Printing}
+use Rattle.desk.specs.Turn.{Holds, Waits}
 use Rattle.desk.specs.declared.State.{State}
 use Rattle.desk.specs.declared.input.Unread.{Unread}
-use Rattle.desk.specs.declared.output.Printed.{Printed}
 
 -- a block's requests are served
 pub never-refused : (t : Tables) {s : Served} {r : Refusal} → s ≡ No r → Serves s t → ⊥

@@ -155,28 +155,17 @@ fn turn(
     let b = read_block(input, s.unread, requests);
     let unread = b.unread;
     let head = s.head;
-    let next = State {
+    let s = State {
         head,
         unread,
         filled: s.filled,
         going: true,
     };
-    let end = b.rows * 3;
-    if end == 0 {
-        return wait(next, input, out);
+    let n = b.rows * 3;
+    if n == 0 {
+        return wait(s, input, out);
     }
-    answer_block(
-        next,
-        iv,
-        it,
-        ov,
-        ot,
-        rs,
-        &requests[..end],
-        answers,
-        orders,
-        out,
-    )
+    answer_block(s, iv, it, ov, ot, rs, &requests[..n], answers, orders, out)
 }
 
 // The turns are counted down from a number that no run uses up: nothing says that the input ends.

@@ -1,3 +1,4 @@
+-- `desk::answer_block` meets its contract. Assumes nothing.
 use Rattle.desk.proofs.TurnLaws.{never-refused, served-ready, ready-by}
 use lib.Seq.{length-take-le}
 use lib.ListN.{length}
@@ -6,108 +7,79 @@ use mathlib.Core.Path.{sym}
 use borrow.Author.Needs.{needs}
 use Rattle.desk.proofs.answer_block.Statement.{statement}
 use Rattle.desk.proofs.answer_block.Tie as tie
-use Rattle.desk.proofs.answer_block.Reads as reads
-use Rattle.desk.proofs.answer_block.Lts as lts
-use Rattle.desk.proofs.block.serve_block.Reads as serve-block-reads
-use Rattle.desk.proofs.output.print_block.Reads as print-block-reads
-use Rattle.desk.proofs.printed.Reads as printed-reads
 
--- src/main.rt:132:9
 serve-block-requires : tie.Need-serve-block-requires
 serve-block-requires c κs = search needs
 
--- src/main.rt:133:22
 enum-known-served : tie.Need-enum-known-served
 enum-known-served c = search needs
 
--- src/main.rt:134:9
 enum-told : tie.Need-enum-told
 enum-told c = search needs
 
--- src/main.rt:134:9
 same-length : tie.Need-same-length
 same-length c = search needs
 
--- src/main.rt:134:9
 same-length-2 : tie.Need-same-length-2
 same-length-2 c = search needs
 
--- src/main.rt:134:9
 same-length-3 : tie.Need-same-length-3
 same-length-3 c = search needs
 
--- src/main.rt:134:9
 same-length-4 : tie.Need-same-length-4
 same-length-4 c = search needs
 
--- src/main.rt:134:9
 same-length-5 : tie.Need-same-length-5
 same-length-5 c = search needs
 
--- src/main.rt:134:9
 same-length-6 : tie.Need-same-length-6
 same-length-6 c = search needs
 
--- src/main.rt:134:9
 same-length-7 : tie.Need-same-length-7
 same-length-7 c = search needs
 
--- src/main.rt:134:9
 returns : tie.Need-returns
 returns c = absurd (never-refused _ (c .enum-told .given .1) (c .before .before .before .before .before .before .before .before .before .before .before .before .before .before .before .before .serve-block .ensures .serves))
 
--- src/main.rt:136:35
 slice-reshare-prefix-print-block : tie.Need-slice-reshare-prefix-print-block
 slice-reshare-prefix-print-block c = omega (arith, c .before .before .before .before .before .before .before .before .before .before .before .before .before .before .before .before .before .serve-block .kept .1 .1 .1 .1 .1 .1 .1 .0, c .before .before .before .before .before .before .before .before .before .before .before .before .before .before .before .before .before .before .before .before .before .before .before .before .before .before .before .before .before .before .before .before .before .before .before .before .pre .1 .0 .answered)
 
--- src/main.rt:136:35
 slice-aggregate-print-block : tie.Need-slice-aggregate-print-block
 slice-aggregate-print-block c = sym (length-take-le _ _ (omega (arith, c .before .before .before .before .before .before .before .before .before .before .before .before .before .before .before .before .before .before .serve-block .kept .1 .1 .1 .1 .1 .1 .1 .0, c .before .before .before .before .before .before .before .before .before .before .before .before .before .before .before .before .before .before .before .before .before .before .before .before .before .before .before .before .before .before .before .before .before .before .before .before .before .pre .1 .0 .answered)))
 
--- src/main.rt:136:9
 print-block-requires : tie.Need-print-block-requires
 print-block-requires c κs =
     let serve = c .before .before .before .before .before .before .before .before .before .before .before .before .before .before .before .before .before .before .before .before .serve-block in
     let s = c .before .before .before .before .before .before .before .before .before .before .before .before .before .before .before .before .before .before .before .before .before .before .before .before .before .before .before .before .before .before .before .before .before .before .before .before .before .before .before in
     (omega (arith, length-take-le (length (s .args .requests .now)) (serve .last .1 .1 .1 .1 .1 .1 .1 .0) (omega (arith, serve .kept .1 .1 .1 .1 .1 .1 .1 .0, s .pre .1 .0 .answered))), (serve .ensures .within, s .pre .1 .1))
 
--- src/main.rt:137:5
 printed-requires : tie.Need-printed-requires
 printed-requires c κs = search needs
 
--- src/main.rt:110:1
 same-length-8 : tie.Need-same-length-8
 same-length-8 c = c .before .before .before .before .before .before .before .before .before .before .before .before .before .before .before .before .before .before .before .before .before .before .before .before .serve-block .kept .1 .0
 
--- src/main.rt:110:1
 same-length-9 : tie.Need-same-length-9
 same-length-9 c = c .before .before .before .before .before .before .before .before .before .before .before .before .before .before .before .before .before .before .before .before .before .before .before .before .serve-block .kept .1 .1 .0
 
--- src/main.rt:110:1
 same-length-10 : tie.Need-same-length-10
 same-length-10 c = c .before .before .before .before .before .before .before .before .before .before .before .before .before .before .before .before .before .before .before .before .before .before .before .before .serve-block .kept .1 .1 .1 .0
 
--- src/main.rt:110:1
 same-length-11 : tie.Need-same-length-11
 same-length-11 c = c .before .before .before .before .before .before .before .before .before .before .before .before .before .before .before .before .before .before .before .before .before .before .before .before .serve-block .kept .1 .1 .1 .1 .0
 
--- src/main.rt:110:1
 same-length-12 : tie.Need-same-length-12
 same-length-12 c = c .before .before .before .before .before .before .before .before .before .before .before .before .before .before .before .before .before .before .before .before .before .before .before .before .serve-block .kept .1 .1 .1 .1 .1 .0
 
--- src/main.rt:110:1
 same-length-13 : tie.Need-same-length-13
 same-length-13 c = c .before .before .before .before .before .before .before .before .before .before .before .before .before .before .before .before .before .before .before .before .before .before .before .before .serve-block .kept .1 .1 .1 .1 .1 .1 .1 .0
 
--- src/main.rt:110:1
 same-length-14 : tie.Need-same-length-14
 same-length-14 c = search needs
 
--- src/main.rt:110:1
 same-length-15 : tie.Need-same-length-15
 same-length-15 c = search needs
 
--- src/main.rt:110:1
 returns-2 : tie.Need-returns-2
 returns-2 c =
     let serve = c .before .before .before .before .before .before .before .before .before .before .before .before .before .before .before .before .before .before .before .before .before .before .before .before .serve-block in

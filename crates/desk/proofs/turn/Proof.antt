@@ -1,3 +1,4 @@
+-- `desk::turn` meets its contract. Assumes nothing.
 use Rattle.desk.proofs.TurnLaws.{within-by, holds-waits, enough}
 use lib.Seq.{length-take-le}
 use native.Mathlib.Omega.{arith}
@@ -5,49 +6,34 @@ use mathlib.Core.Path.{sym}
 use borrow.Author.Needs.{needs}
 use Rattle.desk.proofs.turn.Statement.{statement}
 use Rattle.desk.proofs.turn.Tie as tie
-use Rattle.desk.proofs.turn.Reads as reads
-use Rattle.desk.proofs.turn.Lts as lts
-use Rattle.desk.proofs.answer_block.Reads as answer-block-reads
-use Rattle.desk.proofs.block.read_block.Reads as read-block-reads
-use Rattle.desk.proofs.wait.Reads as wait-reads
 
--- src/main.rt:158:9
 read-block-requires : tie.Need-read-block-requires
 read-block-requires c κs = search needs
 
--- src/main.rt:167:15
-mul-end : tie.Need-mul-end
-mul-end c = search needs
+mul-n : tie.Need-mul-n
+mul-n c = search needs
 
--- src/main.rt:169:9
 wait-requires : tie.Need-wait-requires
 wait-requires c κs = search needs
 
--- src/main.rt:169:9
 same-length : tie.Need-same-length
 same-length c = search needs
 
--- src/main.rt:169:9
 same-length-2 : tie.Need-same-length-2
 same-length-2 c = search needs
 
--- src/main.rt:169:9
 same-length-3 : tie.Need-same-length-3
 same-length-3 c = search needs
 
--- src/main.rt:169:9
 returns : tie.Need-returns
 returns c = holds-waits (c .before .before .before .before .before .before .before .before .before .before .before .before .before .before .before .before .before .before .before .before .before .before .before .before .before .before .pre .0 .ready) (c .before .before .before .before .wait .ensures .1) (c .before .before .before .before .wait .ensures .0)
 
--- src/main.rt:178:9
 slice-reshare-prefix-answer-block : tie.Need-slice-reshare-prefix-answer-block
 slice-reshare-prefix-answer-block c = search needs
 
--- src/main.rt:178:9
 slice-aggregate-answer-block : tie.Need-slice-aggregate-answer-block
 slice-aggregate-answer-block c = sym (length-take-le _ _ (omega (arith, c .before .before .before .before .before .before .before .before .before .before .before .before .read-block .kept .1 .1 .0, c .before .before .before .before .before .before .before .before .before .before .before .before .read-block .ensures .1 .0, c .before .before .before .before .before .before .before .before .before .before .before .before .before .before .before .before .before .before .before .before .before .before .before .before .before .pre .1 .asked)))
 
--- src/main.rt:171:5
 answer-block-requires : tie.Need-answer-block-requires
 answer-block-requires c κs =
     let s = c .before .before .before .before .before .before .before .before .before .before .before .before .before .before .before .before .before .before .before .before .before .before .before .before .before .before .before .before in
@@ -59,47 +45,36 @@ answer-block-requires c κs =
       ),
     )
 
--- src/main.rt:141:1
 same-length-4 : tie.Need-same-length-4
 same-length-4 c = search needs
 
--- src/main.rt:141:1
 same-length-5 : tie.Need-same-length-5
 same-length-5 c = search needs
 
--- src/main.rt:141:1
 same-length-6 : tie.Need-same-length-6
 same-length-6 c = search needs
 
--- src/main.rt:141:1
 same-length-7 : tie.Need-same-length-7
 same-length-7 c = search needs
 
--- src/main.rt:141:1
 same-length-8 : tie.Need-same-length-8
 same-length-8 c = search needs
 
--- src/main.rt:141:1
 same-length-9 : tie.Need-same-length-9
 same-length-9 c = c .before .before .before .before .before .before .before .before .before .before .before .before .before .before .before .before .before .before .before .before .before .before .before .before .before .before .before .before .before .before .before .before .read-block .kept .1 .1 .0
 
--- src/main.rt:141:1
 same-length-10 : tie.Need-same-length-10
 same-length-10 c = search needs
 
--- src/main.rt:141:1
 same-length-11 : tie.Need-same-length-11
 same-length-11 c = search needs
 
--- src/main.rt:141:1
 same-length-12 : tie.Need-same-length-12
 same-length-12 c = search needs
 
--- src/main.rt:141:1
 same-length-13 : tie.Need-same-length-13
 same-length-13 c = search needs
 
--- src/main.rt:141:1
 returns-2 : tie.Need-returns-2
 returns-2 c =
     let s = c .before .before .before .before .before .before .before .before .before .before .before .before .before .before .before .before .before .before .before .before .before .before .before .before .before .before .before .before .before .before .before .before .before .before .before .before .before .before .before .before .before .before .before .before .before in
@@ -116,7 +91,7 @@ turn-spec =
     tie.close
     (tie.spec
     read-block-requires
-    mul-end
+    mul-n
     wait-requires
     same-length
     same-length-2

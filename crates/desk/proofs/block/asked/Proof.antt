@@ -1,6 +1,4 @@
 -- `desk::block::asked` meets its contract. Assumes nothing.
-use native.Mathlib.Omega.{arith}
-use mathlib.Core.Path.{sym, _∙_}
 use Rattle.desk.proofs.Laws.{row-cut, row-asks, row-bad}
 use borrow.Author.Needs.{needs}
 use Rattle.desk.proofs.block.asked.Statement.{statement}

@@ -1,6 +1,6 @@
 -- `desk::block::most_rows` meets its contract. Assumes nothing.
 use native.Mathlib.Omega.{arith}
-use mathlib.Core.Path.{sym, ap}
+use mathlib.Core.Path.{sym}
 use Rattle.desk.specs.Block.{mostOf}
 use Rattle.desk.proofs.Laws.{most-other}
 use Rattle.desk.proofs.block.most_rows.Statement.{statement}

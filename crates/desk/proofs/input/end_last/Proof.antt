@@ -1,28 +1,22 @@
+-- `desk::input::end_last` meets its contract. Assumes nothing.
 use native.Mathlib.Omega.{arith}
 use lib.ListN.{length-set}
 use borrow.Author.Needs.{needs}
 use Rattle.desk.proofs.input.end_last.Statement.{statement}
 use Rattle.desk.proofs.input.end_last.Tie as tie
-use Rattle.desk.proofs.input.end_last.Reads as reads
-use Rattle.desk.proofs.input.end_last.Lts as lts
 
--- src/input.rt:86:9
 returns : tie.Need-returns
 returns c = search needs
 
--- src/input.rt:93:5
 slice-write-input : tie.Need-slice-write-input
 slice-write-input c = search needs
 
--- src/input.rt:96:13
 add-t7 : tie.Need-add-t7
 add-t7 c = search needs
 
--- src/input.rt:79:1
 same-length : tie.Need-same-length
 same-length c = search needs
 
--- src/input.rt:79:1
 returns-2 : tie.Need-returns-2
 returns-2 c = record { ordered = omega arith; inside = simp length-set (omega arith) }
 

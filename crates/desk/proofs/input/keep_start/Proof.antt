@@ -1,6 +1,6 @@
 -- `desk::input::keep_start` meets its contract. Assumes nothing.
 use native.Mathlib.Omega.{arith}
-use borrow.Author.Tests.{ltb-true, ltb-false}
+use borrow.Author.Tests.{ltb-false}
 use borrow.Author.Needs.{needs}
 use Rattle.desk.proofs.input.keep_start.Statement.{statement}
 use Rattle.desk.proofs.input.keep_start.Tie as tie

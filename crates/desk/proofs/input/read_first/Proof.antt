@@ -1,7 +1,6 @@
 -- `desk::input::read_first` meets its contract. Assumes nothing.
-use Prim.Native.Nat.{_<_}
 use native.Mathlib.Omega.{arith}
-use mathlib.Core.Path.{_≡_, refl, _∙_}
+use mathlib.Core.Path.{_≡_, refl}
 use lib.ListN.{length}
 use Rattle.desk.specs.Input.{Within}
 use Rattle.desk.proofs.input.read_first.Statement.{statement}

@@ -1,7 +1,6 @@
 -- `desk::output::print_answer` meets its contract. Assumes nothing.
 use mathlib.Core.Path.{sym, ap, _∙_}
 use native.Mathlib.Omega.{arith}
-use lib.ListN.{length}
 use lib.Seq.{length-take-le}
 use Rattle.lines.specs.Answer.{writing}
 use Rattle.lines.specs.declared.answer.Put.{Put}
