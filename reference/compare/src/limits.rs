@@ -80,25 +80,31 @@ pub fn book(mode: Mode, counts: &Counts) -> Book {
     Book {
         mode: mode.number(),
         users,
-        inner_tokens: inner
-            .iter()
-            .map(|&(from, to)| InnerToken {
-                from: InnerVertex::at(from),
-                to: InnerVertex::at(to),
-                kind: KIND_DERIVATION,
-            })
-            .collect(),
-        outer_tokens: outer
-            .iter()
-            .map(|&(from, to)| OuterToken {
-                from: OuterVertex::at(from),
-                to: OuterVertex::at(to),
-            })
-            .collect(),
+        inner_tokens: inner_tokens(&inner),
+        outer_tokens: outer_tokens(&outer),
         inner_vertices,
         outer_vertices,
         resources: resources.collect(),
     }
+}
+
+/// Kind 0 tokens between inner vertices.
+pub fn inner_tokens(ends: &[(usize, usize)]) -> Vec<InnerToken> {
+    let token = |&(from, to)| InnerToken {
+        from: InnerVertex::at(from),
+        to: InnerVertex::at(to),
+        kind: KIND_DERIVATION,
+    };
+    ends.iter().map(token).collect()
+}
+
+/// Tokens between outer vertices.
+pub fn outer_tokens(ends: &[(usize, usize)]) -> Vec<OuterToken> {
+    let token = |&(from, to)| OuterToken {
+        from: OuterVertex::at(from),
+        to: OuterVertex::at(to),
+    };
+    ends.iter().map(token).collect()
 }
 
 /// Small counts, nothing near a limit.

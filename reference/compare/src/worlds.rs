@@ -4,13 +4,15 @@
 use std::collections::HashSet;
 
 use fenstubble_reference::book::{
-    Book, InnerToken, Mode, OuterToken, ResourceRow, SoundBook, KIND_DERIVATION, MAX_INNER_TOKENS,
-    MAX_OUTER_GROUPS, MAX_OUTER_TOKENS, MAX_RESOURCES, MAX_USERS,
+    Book, Mode, ResourceRow, SoundBook, MAX_INNER_TOKENS, MAX_OUTER_GROUPS, MAX_OUTER_TOKENS,
+    MAX_RESOURCES, MAX_USERS,
 };
 use fenstubble_reference::generate::{member, Random};
 use fenstubble_reference::numbers::{InnerVertex, OuterVertex, Resource, User};
 use fenstubble_reference::requests::{cover, Request};
 use fenstubble_reference::sets::UserSet;
+
+use crate::limits::{inner_tokens, outer_tokens};
 
 /// A book that requests have led to, and these requests.
 #[derive(Clone, Debug)]
@@ -243,21 +245,8 @@ pub fn grown(inner_groups: usize, outer_groups: usize, tokens: usize) -> Book {
         mode: Mode::Delta.number(),
         users: 64,
         resources: resources.collect(),
-        inner_tokens: inner
-            .iter()
-            .map(|&(from, to)| InnerToken {
-                from: InnerVertex::at(from),
-                to: InnerVertex::at(to),
-                kind: KIND_DERIVATION,
-            })
-            .collect(),
-        outer_tokens: outer
-            .iter()
-            .map(|&(from, to)| OuterToken {
-                from: OuterVertex::at(from),
-                to: OuterVertex::at(to),
-            })
-            .collect(),
+        inner_tokens: inner_tokens(&inner),
+        outer_tokens: outer_tokens(&outer),
         inner_vertices,
         outer_vertices,
     }
