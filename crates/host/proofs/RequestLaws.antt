@@ -1,14 +1,11 @@
 -- What the requests of the C interface answer, from what the calls below them answer: each law is one way out of a call.
 -- Assumes nothing.
 use Prim.Native.Nat.{ℕ, _+_, _*_, _≤_, _<_}
-use mathlib.Core.Path.{_≡_, sym, ap, _∙_}
+use mathlib.Core.Path.{_≡_, sym, ap, ap₂, _∙_}
 use mathlib.Core.List.{List, [], _∷_}
 use native.Mathlib.Omega.{arith}
 use lib.ListN.{length}
 use borrow.Author.Tests.{lt-ltb, le-ltb}
-use types.Run.{OneOf, miss}
-use denote.Enum.Declared.{tagOf}
-use Rattle.rules.proofs.Refusal.{the-type}
 use Rattle.rows.specs.Number.{stored}
 use Rattle.rules.specs.Bytes.{Tables}
 use Rattle.rules.specs.Refusals.{number, viewNumber, viewTold, Request}
@@ -30,39 +27,31 @@ use Rattle.host.specs.Answers.{headFrom, headNumbers, resultOf, Told, to
 
 -- ---- a refusal's number
 
-few-views : (v : View) → viewNumber v ≤ 3
-few-views Open = omega arith
-few-views SelLocked = omega arith
-few-views BelLocked = omega arith
-few-views Locked = omega arith
+view-few : (v : View) → viewNumber v ≤ 3
+view-few Open = omega arith
+view-few SelLocked = omega arith
+view-few BelLocked = omega arith
+view-few Locked = omega arith
 
-pub view-few : (v : View) {k : ℕ} → k ≡ viewNumber v → k ≤ 3
-view-few v e = omega (arith, e, few-views v)
+-- they are small
+pub result-few : (n : Refusal) → (number n ≤ 14) × (viewTold n ≤ 3)
+result-few ShortTable = (omega arith, omega arith)
+result-few Unsound = (omega arith, omega arith)
+result-few NoSuch = (omega arith, omega arith)
+result-few EmptyList = (omega arith, omega arith)
+result-few UsersFull = (omega arith, omega arith)
+result-few ResourcesFull = (omega arith, omega arith)
+result-few Listed = (omega arith, omega arith)
+result-few NotListed = (omega arith, omega arith)
+result-few GroupsFull = (omega arith, omega arith)
+result-few InnerTokensFull = (omega arith, omega arith)
+result-few OuterTokensFull = (omega arith, omega arith)
+result-few (Closed v) = (omega arith, view-few v)
+result-few ShortList = (omega arith, omega arith)
 
-pub result-closed : {n : Refusal} {v : View} {k : ℕ} → n ≡ Closed v → k ≡ viewNumber v → 11 + 256 * k ≡ resultOf n
+pub result-by : (n : Refusal) {k v : ℕ} → k ≡ number n → v ≡ viewTold n → k + 256 * v ≡ resultOf n
 unfolding resultOf
-result-closed is e = ap (λ (x : ℕ). 11 + 256 * x) e ∙ sym (ap (λ (x : Refusal). number x + 256 * viewTold x) is)
-
--- the refusals by their place in the declaration, without 11
-abbrev others : List ℕ
-others = 0 ∷ 1 ∷ 2 ∷ 3 ∷ 4 ∷ 5 ∷ 6 ∷ 7 ∷ 8 ∷ 9 ∷ 10 ∷ 12 ∷ []
-
--- these tell no view
-pub result-plain : (n : Refusal) {k : ℕ} → OneOf others (tagOf the-type n) → k ≡ number n → k ≡ resultOf n
-unfolding resultOf
-result-plain ShortTable one e = e
-result-plain Unsound one e = e
-result-plain NoSuch one e = e
-result-plain EmptyList one e = e
-result-plain UsersFull one e = e
-result-plain ResourcesFull one e = e
-result-plain Listed one e = e
-result-plain NotListed one e = e
-result-plain GroupsFull one e = e
-result-plain InnerTokensFull one e = e
-result-plain OuterTokensFull one e = e
-result-plain (Closed v) one e = absurd (miss others 11 (tt {0}) one)
-result-plain ShortList one e = e
+result-by n ek ev = ap₂ (λ (x y : ℕ). x + 256 * y) ek ev
 
 -- ---- the requests that change the book
 

@@ -15,6 +15,7 @@ use rules::Served;
 use rules::Viewed;
 use rules::refusal_number;
 use rules::view_number;
+use rules::view_told;
 use sets::User;
 use sets::Users;
 ghost use mathlib.Core.Path.{_≡_};
@@ -29,10 +30,7 @@ ghost use Rattle.host.specs.Answers.{resultOf, toldAs, changeTold, chang
 fn result_of(n: Refusal) -> u16
     ensures { λ r. ⌜ r ≡ resultOf n ⌝ }
 {
-    let Refusal::Closed(v) = n else {
-        return refusal_number(n);
-    };
-    11 + 256 * view_number(v)
+    refusal_number(n) + 256 * view_told(n)
 }
 
 // What a change answers, in numbers.

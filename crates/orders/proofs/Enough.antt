@@ -146,3 +146,18 @@ pub recorded-by : (q : Request) (h : Head) (t : Tables) (rows : List ℕ) (list 
     → recording c u zs ≡ recorded q h t list
 unfolding recorded filled
 recorded-by q h t rows list e k f = record-by (refusal t (bookIn h t) (length list) q) (work q (bookIn h t)) t rows list e k f
+
+-- ---- among the calls of a run
+
+-- the call on records answers and leaves in the tables what the call on as many rows of numbers does
+pub recorded-change : (q : Request) (h : Head) (t : Tables) (list : List Order) (numbers : List ℕ) → rowsLent numbers ≡ length list
+    → (recorded q h t list .answer ≡ change q h t numbers .answer) × (recorded q h t list .tables ≡ change q h t numbers .tables)
+unfolding recorded recordedBy change changeBy
+recorded-change q h t list numbers e = rw e (go (refusal t (bookIn h t) (length list) q))
+  where
+    d : Done
+    d = work q (bookIn h t)
+
+    go : (z : Option Refusal) → (recordedBy z d t list .answer ≡ changeBy z d t numbers .answer) × (recordedBy z d t list .tables ≡ changeBy z d t numbers .tables)
+    go (some r) = (refl, refl)
+    go none = (refl, refl)

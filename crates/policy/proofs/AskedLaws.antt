@@ -62,25 +62,6 @@ module _ (k a b : ℕ) (l : 2 ≤ k) where
 
 -- ---- an answer as a row
 
--- the refusals by their place in the declaration, without 11: they tell no view
-abbrev others : List ℕ
-others = 0 ∷ 1 ∷ 2 ∷ 3 ∷ 4 ∷ 5 ∷ 6 ∷ 7 ∷ 8 ∷ 9 ∷ 10 ∷ 12 ∷ []
-
-pub no-view : (n : Refusal) → OneOf others (tagOf the-type n) → 0 ≡ viewTold n
-no-view ShortTable one = refl
-no-view Unsound one = refl
-no-view NoSuch one = refl
-no-view EmptyList one = refl
-no-view UsersFull one = refl
-no-view ResourcesFull one = refl
-no-view Listed one = refl
-no-view NotListed one = refl
-no-view GroupsFull one = refl
-no-view InnerTokensFull one = refl
-no-view OuterTokensFull one = refl
-no-view (Closed v) one = absurd (miss others 11 (tt {0}) one)
-no-view ShortList one = refl
-
 pub refuses : (h : Head) (n : Refusal) {k v : ℕ} → k ≡ number n → v ≡ viewTold n → Refuses h n record { head = h; number = k; view = v; count = 0 }
 unfolding refusedOne
 refuses h n ek ev t list = ap₂ (λ (x y : ℕ). answering record { head = h; number = x; view = y; count = 0 } t list) ek ev

@@ -13,7 +13,7 @@ use rules::Refusal;
 use rules::Resource;
 use rules::Served;
 use rules::refusal_number;
-use rules::view_number;
+use rules::view_told;
 use sets::User;
 use sets::Users;
 use sound::Checked;
@@ -24,7 +24,6 @@ ghost use Prim.Native.Nat.{_+_, _*_, _≤_, _<_};
 ghost use lib.ListN.{length};
 ghost use Rattle.rows.specs.Number.{stored};
 ghost use Rattle.rules.specs.Bytes.{tables, bookIn};
-ghost use Rattle.rules.specs.Refusals.{viewTold};
 ghost use Rattle.rules.specs.Calls.{opens, asked, askedIn, one, chainRows, all, serveBy, serveCall, serving};
 ghost use Rattle.plan.specs.Judge.{Ready};
 ghost use Rattle.policy.specs.Open.{Opening, lengthsOf};
@@ -82,16 +81,6 @@ pub struct Answer {
     pub number: u16,
     pub view: u16,
     pub count: u16,
-}
-
-// The view told with a refusal.
-fn view_told(n: Refusal) -> u16
-    ensures { λ r. ⌜ r ≡ viewTold n ⌝ }
-{
-    let Refusal::Closed(v) = n else {
-        return 0;
-    };
-    view_number(v)
 }
 
 fn refused(h: Head, n: Refusal) -> Answer
