@@ -1,7 +1,7 @@
--- How far the output buffer is filled, and the order rows that answer rows count.
+-- What the output buffer holds and how far it is filled, and the order rows that answer rows count.
 -- Assumes nothing.
 use Prim.Native.Nat.{ℕ, _+_, _≤_}
-use mathlib.Core.Bool.{Bool, true, _&&_, not}
+use mathlib.Core.Bool.{Bool, true, _&&_, not, cond}
 use mathlib.Core.List.{List, [], _∷_}
 use lib.Dec.{eqb}
 use lib.ListN.{length}
@@ -28,3 +28,7 @@ neverTen [] = true
 neverTen (n ∷ []) = true
 neverTen (n ∷ v ∷ []) = true
 neverTen (n ∷ v ∷ c ∷ rows) = not (eqb n 10) && neverTen rows
+
+-- the number that a line is answered with: 14 where its row is that of a malformed line
+unfoldable pub told : ℕ → ℕ → ℕ
+told kind number = cond (eqb kind 14) 14 number

@@ -7,7 +7,7 @@ use lines::answer::put_answer;
 ghost use mathlib.Core.Path.{_≡_};
 ghost use Prim.Native.Nat.{_*_, _≤_};
 ghost use lib.ListN.{length};
-ghost use Rattle.desk.specs.Output.{Filled, counts};
+ghost use Rattle.desk.specs.Output.{Filled, counts, told};
 
 // The buffer's bytes: more than the longest answer has.
 pub const OUTPUT: usize = 16384;
@@ -50,7 +50,9 @@ fn print_answer(number: u16, view: u16, rows: &[u16], out: &mut [u8], filled: us
 }
 
 // The number that a row's line is answered with.
-fn number_told(kind: u64, number: u16) -> u16 {
+fn number_told(kind: u64, number: u16) -> u16
+    ensures { λ r. ⌜ r ≡ told kind number ⌝ }
+{
     if kind == MALFORMED {
         return 14;
     }
