@@ -117,7 +117,7 @@ module _ {front text : List ℕ} {rest : List (List ℕ)} {end : ℕ} {out : Lis
   gathered-alone g = record { gone = suc (g .gone); last = omega (arith, g .last); holds = g .holds }
 
 -- what stands before the end of a store
-taken-stored : (at : ℕ) (bs t : List ℕ) → at ≤ length t → take (at + length bs) (stored at bs t) ≡ take at t ++ bs
+pub taken-stored : (at : ℕ) (bs t : List ℕ) → at ≤ length t → take (at + length bs) (stored at bs t) ≡ take at t ++ bs
 unfolding stored
 taken-stored at bs t h =
     ap (λ (x : List ℕ). take (at + length bs) x) (sym (append-assoc (take at t) bs (drop (at + length bs) t)))
