@@ -4,17 +4,20 @@ use Prim.Native.Nat.{ℕ, zero, suc, _+_, _*_, _-_, _≤_, _<_}
 use mathlib.Core.Path.{_≡_, refl, sym, ap, ap₂, subst, _∙_}
 use mathlib.Core.Bool.{Bool, true, false, cond}
 use mathlib.Core.List.{List, [], _∷_, _++_, append-assoc, append-nil}
+use native.Mathlib.Numerals.{add-one}
 use native.Mathlib.Omega.{arith}
 use lib.Dec.{eqb, leb}
-use lib.ListN.{length, take, drop, length-take, length-drop}
-use lib.Seq.{take-nil, take-take, drop-drop, length-take-le}
+use lib.ListN.{length, take, drop, getD, set, length-drop}
+use lib.Seq.{take-nil, take-take, take-suc, drop-drop, getD-drop, length-take-le}
 use borrow.Author.Tests.{le-leb, lt-leb, ne-eqb}
 use Rattle.rows.specs.Number.{stored}
+use Rattle.rows.proofs.Laws.{stored-add, stored-rest, length-stored}
 use Rattle.rules.specs.Lists.{first}
 use Rattle.lines.specs.Request.{longer, lineAsks}
 use Rattle.lines.specs.declared.request.Asked.{Asked}
 use Rattle.desk.specs.Input.{newline, linesIn, between}
 use Rattle.desk.specs.Block.{rowFor, numbersOf, mostOf, rowsOf, span, lineCount, Takes}
+use Rattle.lines.proofs.Putting.{put-byte}
 use Rattle.desk.proofs.PrintLaws.{taken-stored}
 
 -- ---- the next line of a text
@@ -151,3 +154,21 @@ module _ (cut₀ : Bool) (from₀ : ℕ) (ls₀ : List (List ℕ)) (rows room : 
       ∙ ap (λ (x : List ℕ). x ++ more) (sym (ap₂ (λ (x : ℕ) (y : List ℕ). take x y) width′ n ∙ taken-stored (rows * 3) (numbersOf q) requests (omega arith))) in
       subst (λ (x : List ℕ). Takes 128 6144 cut₀ from₀ ls₀ (rows + 1 + k) x f c) list
       (subst (λ (x : ℕ). Takes 128 6144 cut₀ from₀ ls₀ x (take (rows * 3) requests ++ (numbersOf q ++ more)) f c) count whole)
+
+-- ---- an unfinished line, byte by byte to the front
+
+pub front-more : (t : List ℕ) (from i : ℕ) {now : List ℕ} → from + i < length t → now ≡ stored 0 (take i (drop from t)) t
+    → set now i (getD now (from + i) 0) ≡ stored 0 (take (i + 1) (drop from t)) t
+front-more t from i {now} h e =
+    let rest : List ℕ = drop from t in
+    let long : length (take i rest) ≡ i = length-take-le i rest (omega (arith, length-drop from t)) in
+    let whole : length now ≡ length t = ap length e ∙ length-stored 0 (take i rest) t (omega arith) in
+    let turned : from + i ≡ i + from = omega arith in
+    let untouched : drop i now ≡ drop i t = ap (λ (x : List ℕ). drop i x) e ∙ stored-rest i 0 (take i rest) t (omega arith) (omega arith) in
+    let byte : getD now (from + i) 0 ≡ getD rest i 0 =
+    ap (λ (n : ℕ). getD now n 0) turned
+    ∙ (sym (getD-drop i now from 0) ∙ (ap (λ (x : List ℕ). getD x from 0) untouched ∙ (getD-drop i t from 0 ∙ (ap (λ (n : ℕ). getD t n 0) (sym turned) ∙ sym (getD-drop from t i 0))))) in
+    let one : take (i + 1) rest ≡ take i rest ++ (getD rest i 0 ∷ []) = ap (λ (n : ℕ). take n rest) (add-one i) ∙ take-suc rest i 0 (omega (arith, length-drop from t)) in
+    put-byte (getD now (from + i) 0) i now (omega arith) .holds
+    ∙ (ap₂ (λ (b : ℕ) (x : List ℕ). stored i (b ∷ []) x) byte e
+    ∙ (stored-add 0 (take i rest) (getD rest i 0 ∷ []) t i (omega arith) (omega arith) ∙ ap (λ (x : List ℕ). stored 0 x t) (sym one)))
