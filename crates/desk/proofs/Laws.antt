@@ -12,6 +12,7 @@ use borrow.Author.Tests.{ltb-true}
 use Rattle.rows.specs.Number.{stored}
 use Rattle.rules.specs.Lists.{first}
 use Rattle.lines.specs.Answer.{answerText, roomFor, writing, Written, putAnswer}
+use Rattle.lines.specs.declared.answer.Put.{Put}
 use Rattle.lines.specs.declared.answer.Put.the-variants.{To, Full}
 use Rattle.lines.proofs.Passed.{next}
 use Rattle.lines.specs.Request.{same, modes, modeOf, firstLine}
@@ -30,10 +31,10 @@ pub stored-within : (at : ℕ) (bs t : List ℕ) → at ≤ length t → at + le
 unfolding stored
 stored-within at bs t h = simp (length-append, length-take, length-drop) (omega arith)
 
-pub put-within : (number view : ℕ) (rows out : List ℕ) (at : ℕ) {end : ℕ} {now : List ℕ} → at ≤ length out
-    → writing (To end) now ≡ putAnswer number view rows out at → end ≤ length now
+pub put-within : (number view : ℕ) (rows out : List ℕ) (at : ℕ) {p : Put} {end : ℕ} {now : List ℕ} → at ≤ length out → p ≡ To end
+    → writing p now ≡ putAnswer number view rows out at → end ≤ length now
 unfolding putAnswer
-put-within number view rows out at {end} {now} h p = go (roomFor rows at out) p
+put-within number view rows out at {p} {end} {now} h e w = go (roomFor rows at out) (ap (λ (x : Put). writing x now) (sym e) ∙ w)
   where
     text : List ℕ
     text = answerText number view rows

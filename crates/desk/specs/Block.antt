@@ -1,15 +1,20 @@
 -- The lines that one call serves: their request rows, and the most order rows that they may need.
 -- Assumes nothing.
-use Prim.Native.Nat.{ℕ, zero, suc, _+_, _*_, _/_, _%_, _≤_}
+use Prim.Native.Nat.{ℕ, zero, suc, _+_, _*_, _-_, _/_, _%_, _≤_}
 use mathlib.Core.Path.{_≡_}
-use mathlib.Core.Bool.{Bool, true, false}
-use mathlib.Core.List.{List, [], _∷_}
-use lib.ListN.{length}
+use mathlib.Core.Bool.{Bool, true, false, cond}
+use mathlib.Core.List.{List, [], _∷_, _++_}
+use lib.Dec.{eqb, leb}
+use lib.ListN.{length, take}
 use Rattle.rules.specs.Bytes.{Tables}
 use Rattle.rules.specs.declared.Served.{Served}
 use Rattle.rules.specs.declared.Served.the-variants.{Done, No}
 use Rattle.plan.specs.Judge.{Ready}
+use Rattle.desk.specs.Input.{linesIn, between}
 use Rattle.desk.specs.Output.{counts, neverTen}
+use Rattle.desk.specs.declared.block.Block.{Block}
+use Rattle.desk.specs.declared.input.Unread.{Unread}
+use Rattle.lines.specs.Request.{lineAsks}
 use Rattle.lines.specs.declared.request.Asked.{Asked}
 use Rattle.lines.specs.declared.request.Line.{Line}
 use Rattle.lines.specs.declared.request.Line.the-variants.{Asks, Malformed}
@@ -45,6 +50,41 @@ mostIn [] = 0
 mostIn (k ∷ []) = 0
 mostIn (k ∷ a ∷ []) = 0
 mostIn (k ∷ a ∷ b ∷ rows) = mostOf k + mostIn rows
+
+-- ---- the lines that a block takes
+
+-- the request rows of lines; `cut` is of the first alone
+unfoldable pub rowsOf : Bool → List (List ℕ) → List ℕ
+rowsOf cut [] = []
+rowsOf cut (l ∷ ls) = numbersOf (rowFor cut (lineAsks l)) ++ rowsOf false ls
+
+-- the bytes of lines with their newlines
+unfoldable pub span : List (List ℕ) → ℕ
+span [] = 0
+span (l ∷ ls) = length l + 1 + span ls
+
+-- how many of the lines: to the last of them, unless n rows are filled or fewer order rows are left than a request may need
+unfoldable pub lineCount : ℕ → ℕ → Bool → List (List ℕ) → ℕ
+lineCount zero room cut ls = 0
+lineCount (suc n) room cut [] = 0
+lineCount (suc n) room cut (l ∷ ls) =
+    let more = suc (lineCount n (room - mostOf (rowFor cut (lineAsks l) .kind)) false ls) in
+    cond (leb 385 room) more 0
+
+-- with n rows and `room` order rows, of lines whose bytes begin at `from`: how many were taken, their rows, where the rest begins, and its `cut`
+pub record Takes (n room : ℕ) (cut : Bool) (from : ℕ) (ls : List (List ℕ)) (count : ℕ) (rows : List ℕ) (from′ : ℕ) (cut′ : Bool) : Type 0 where
+  pub count≡ : count ≡ lineCount n room cut ls
+  pub rows≡ : rows ≡ rowsOf cut (take count ls)
+  pub from≡ : from′ ≡ from + span (take count ls)
+  pub cut≡ : cut′ ≡ cond (eqb count 0) cut false
+
+-- the lines of the input that is not yet taken
+pub record Reads (u : Unread) (input : List ℕ) (b : Block) (requests : List ℕ) : Type 0 where
+  pub takes : Takes 128 6144 (u .cut) (u .from) (linesIn (between (u .from) (u .to) input)) (b .rows) (take (b .rows * 3) requests) (b .unread .from) (b .unread .cut)
+  pub to≡ : b .unread .to ≡ u .to
+  pub ended≡ : b .unread .ended ≡ u .ended
+
+-- ---- serving them
 
 -- what is lent to the call that serves a block: an answer row for each request, and order rows enough for all
 pub record Enough (requests answers orders : List ℕ) : Type 0 where

@@ -15,7 +15,7 @@ ghost use Rattle.rules.specs.Bytes.{tables};
 ghost use Rattle.plan.specs.Judge.{Ready};
 ghost use Rattle.lines.specs.Request.{lineAsks};
 ghost use Rattle.desk.specs.Input.{Within};
-ghost use Rattle.desk.specs.Block.{rowFor, numbersOf, mostOf, mostIn, Enough, Answered};
+ghost use Rattle.desk.specs.Block.{rowFor, numbersOf, mostOf, mostIn, Reads, Enough, Answered};
 
 // At most so many lines.
 pub const BLOCK: usize = 128;
@@ -86,6 +86,7 @@ pub fn read_block(input: &[u8], u: Unread, requests: &mut [u64]) -> Block
     ensures { λ r. ⌜ Within (r .unread) (now (input .entry)) ⌝ }
     ensures { λ r. ⌜ r .rows ≤ 128 ⌝ }
     ensures { λ r. ⌜ mostIn (take (r .rows * 3) (now (requests .exit))) ≤ 6144 ⌝ }
+    ensures { λ r. ⌜ Reads u (now (input .entry)) r (now (requests .exit)) ⌝ }
 {
     let to = u.to;
     let mut from = u.from;

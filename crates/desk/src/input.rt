@@ -5,8 +5,9 @@ use lines::request::read_mode;
 ghost use mathlib.Core.Path.{_≡_};
 ghost use Prim.Native.Nat.{_-_, _≤_, _<_};
 ghost use lib.ListN.{length};
+ghost use Rattle.rows.specs.Number.{stored};
 ghost use Rattle.rules.specs.Lists.{first};
-ghost use Rattle.desk.specs.Input.{newline, Within, Kept, Moded};
+ghost use Rattle.desk.specs.Input.{newline, between, Within, Kept, Moded};
 
 // The buffer's bytes: a line too long to be a request and one read more.
 pub const INPUT: usize = 16384;
@@ -42,6 +43,7 @@ fn to_front(input: &mut [u8], from: usize, to: usize) -> usize
     requires { ⌜ from ≤ to ⌝ }
     requires { ⌜ to ≤ length (now input) ⌝ }
     ensures { λ r. ⌜ r ≡ to - from ⌝ }
+    ensures { λ _. ⌜ now (input .exit) ≡ stored 0 (between from to (now (input .entry))) (now (input .entry)) ⌝ }
 {
     let n = to - from;
     let mut i: usize = 0;

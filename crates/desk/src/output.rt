@@ -5,9 +5,10 @@ use libc::STDOUT_FILENO;
 use lines::answer::Put;
 use lines::answer::put_answer;
 ghost use mathlib.Core.Path.{_≡_};
+ghost use mathlib.Core.List.{_∷_};
 ghost use Prim.Native.Nat.{_*_, _≤_};
-ghost use lib.ListN.{length};
-ghost use Rattle.desk.specs.Output.{Filled, counts};
+ghost use lib.ListN.{length, take};
+ghost use Rattle.desk.specs.Output.{Filled, counts, told, Prints, texts, Gathers};
 
 // The buffer's bytes: more than the longest answer has.
 pub const OUTPUT: usize = 16384;
@@ -36,6 +37,7 @@ pub fn refuse_start() {
 fn print_answer(number: u16, view: u16, rows: &[u16], out: &mut [u8], filled: usize) -> Printed
     requires { ⌜ filled ≤ length (now out) ⌝ }
     ensures { λ r. ⌜ Filled r (now (out .exit)) ⌝ }
+    ensures { λ r. ⌜ Prints number view (now (rows .entry)) (now (out .entry)) filled r (now (out .exit)) ⌝ }
 {
     if let Put::To(end) = put_answer(number, view, rows, out, filled) {
         return Printed::To(end);
@@ -50,7 +52,9 @@ fn print_answer(number: u16, view: u16, rows: &[u16], out: &mut [u8], filled: us
 }
 
 // The number that a row's line is answered with.
-fn number_told(kind: u64, number: u16) -> u16 {
+fn number_told(kind: u64, number: u16) -> u16
+    ensures { λ r. ⌜ r ≡ told kind number ⌝ }
+{
     if kind == MALFORMED {
         return 14;
     }
@@ -75,6 +79,7 @@ pub fn print_block(
     requires { ⌜ counts (now answers) * 3 ≤ length (now orders) ⌝ }
     requires { ⌜ filled ≤ length (now out) ⌝ }
     ensures { λ r. ⌜ Filled r (now (out .exit)) ⌝ }
+    ensures { λ r. ⌜ Gathers (take filled (now (out .entry)) ∷ texts (now (requests .entry)) (now (answers .entry)) (now (orders .entry))) r (now (out .exit)) ⌝ }
 {
     let mut end = filled;
     let mut used: usize = 0;

@@ -40,7 +40,7 @@ answer-block-requires c κs =
     let read = c .before .before .before .before .before .before .before .before .before .before .before .before .before .before .before .read-block in (
       s .pre .0 .ready,
       (
-        enough (read .result .rows) (read .last .1 .1 .0) (read .ensures .1 .0) (omega (arith, read .kept .1 .1 .0, s .pre .1 .asked)) (s .pre .1 .told) (s .pre .1 .rows) (read .ensures .1 .1),
+        enough (read .result .rows) (read .last .1 .1 .0) (read .ensures .1 .0) (omega (arith, read .kept .1 .1 .0, s .pre .1 .asked)) (s .pre .1 .told) (s .pre .1 .rows) (read .ensures .1 .1 .0),
         s .pre .0 .gathered,
       ),
     )

@@ -1,23 +1,26 @@
--- `desk::block::read_block` meets its contract. The invariant: the order rows that are left are enough for the rows so far. Assumes nothing.
+-- `desk::block::read_block` meets its contract. The invariant: the order rows that are left are enough for the rows so far, and the
+-- lines left complete the block. Assumes nothing.
 use Rattle.desk.proofs.Laws.{most-none, most-more}
+use Rattle.desk.proofs.LineLaws.{part-next, part-none, line-long, stop-full, stop-room, stop-lines, Goes, goes-start, goes-end, goes-more}
+use Rattle.desk.specs.Input.{linesIn, between}
 use Rattle.desk.specs.Block.{mostOf, mostIn}
-use borrow.Author.Tests.{leb-true}
+use borrow.Author.Tests.{leb-true, leb-false}
 use mathlib.Core.List.{List}
 use mathlib.Core.Path.{_≡_, refl, ap, _∙_}
-use Prim.Native.Nat.{ℕ, _+_, _*_, _-_, _≤_}
+use Prim.Native.Nat.{ℕ, _+_, _*_, _-_, _≤_, _<_}
 use native.Mathlib.Omega.{arith}
 use lib.ListN.{length, take}
 use Rattle.desk.proofs.block.read_block.Statement.{statement}
 use Rattle.desk.proofs.block.read_block.Tie as tie
 
 abbrev Inv-loop : tie.InvT-loop
-Inv-loop input u requests₀ to from₀ cut₀ room₀ rows₀ requests from cut room rows = (from ≤ to) × (to ≤ length input) × (rows ≤ 128) × (room + mostIn (take (rows * 3) requests) ≤ 6144) × (length requests ≡ length requests₀)
+Inv-loop input u requests₀ to from₀ cut₀ room₀ rows₀ requests from cut room rows = (from ≤ to) × (to ≤ length input) × (rows ≤ 128) × (room + mostIn (take (rows * 3) requests) ≤ 6144) × (length requests ≡ length requests₀) × Goes cut₀ from₀ (linesIn (between from₀ to input)) rows room cut from (linesIn (between from to input)) requests
 
 abbrev μ-loop : tie.MeasureT-loop
 μ-loop input u requests₀ to from₀ cut₀ room₀ rows₀ requests from cut room rows = 128 - rows
 
 loop-holds : tie.Need-loop-holds Inv-loop μ-loop
-loop-holds c = (omega arith, omega arith, omega arith, most-none, refl)
+loop-holds c = (omega arith, omega arith, omega arith, most-none, refl, goes-start _ _ _ (c .before .before .args .requests .now))
 
 sub-line-end : tie.Need-sub-line-end Inv-loop μ-loop
 sub-line-end c = omega arith
@@ -71,25 +74,52 @@ loop-again c =
     let q = c .before .before .before .before .before .asked .result in
     let more : mostIn (take ((l .rows + 1) * 3) (put .last .0)) ≡ mostIn (take (l .rows * 3) (l .requests)) + mostOf (q .kind) =
     ap (λ (x : List ℕ). mostIn (take ((l .rows + 1) * 3) x)) (put .ensures) ∙ most-more (l .rows) q (l .requests) (omega arith) in
-    (omega arith, omega arith, omega arith, omega (arith, leb-true), omega arith)
+    let s = c .before .before .before .before .before .before .before .before .before .before .before .before .before .before .before in
+    let input = s .args .input .now in
+    let to = s .args .u .to in
+    let width = c .before .before .before .before .before .before .before .before .line-end .result in
+    let e = c .before .before .before .before .before .before .before .before .line-end .ensures .0 in
+    let inside : width < to - l .from = omega arith in (
+      omega arith,
+      omega arith,
+      omega arith,
+      omega (arith, leb-true),
+      omega arith,
+      goes-more _ _ _ (l .rows) (l .room) (l .cut) (l .from) (l .requests) (l .inv .5) (omega arith) (omega (arith, leb-true)) (omega arith)
+          (part-next input (l .from) to width (omega arith) (omega arith) e inside)
+          (c .before .before .before .before .before .asked .ensures) (put .ensures) (c .before .before .before .before .most-rows .ensures .0)
+          (omega (arith, line-long input (l .from) to width (omega arith) (omega arith) e inside)),
+    )
 
 same-length : tie.Need-same-length Inv-loop μ-loop
 same-length c = omega arith
 
 returns : tie.Need-returns Inv-loop μ-loop
-returns c = (record { ordered = omega arith; inside = omega arith }, (omega arith, omega arith))
+returns c =
+    let l = c .before .before .loop in (
+      record { ordered = omega arith; inside = omega arith },
+      (omega arith, (omega arith, record { takes = goes-end _ _ _ (l .rows) (l .room) (l .cut) (l .from) (l .requests) (l .inv .5) (stop-room (l .room) (l .cut) (l .from) (128 - l .rows) (omega (arith, leb-false)) _); to≡ = refl; ended≡ = refl })),
+    )
 
 same-length-2 : tie.Need-same-length-2 Inv-loop μ-loop
 same-length-2 c = omega arith
 
 returns-2 : tie.Need-returns-2 Inv-loop μ-loop
-returns-2 c = (record { ordered = omega arith; inside = omega arith }, (omega arith, omega arith))
+returns-2 c =
+    let l = c .before .loop in (
+      record { ordered = omega arith; inside = omega arith },
+      (omega arith, (omega arith, record { takes = goes-end _ _ _ (l .rows) (l .room) (l .cut) (l .from) (l .requests) (l .inv .5) (stop-full (l .room) (l .cut) (l .from) (omega arith) _); to≡ = refl; ended≡ = refl })),
+    )
 
 same-length-3 : tie.Need-same-length-3 Inv-loop μ-loop
 same-length-3 c = omega arith
 
 returns-3 : tie.Need-returns-3 Inv-loop μ-loop
-returns-3 c = (record { ordered = omega arith; inside = omega arith }, (omega arith, omega arith))
+returns-3 c =
+    let l = c .before .before .before .before .before .loop in (
+      record { ordered = omega arith; inside = omega arith },
+      (omega arith, (omega arith, record { takes = goes-end _ _ _ (l .rows) (l .room) (l .cut) (l .from) (l .requests) (l .inv .5) (stop-lines (l .room) (l .cut) (l .from) (128 - l .rows) (part-none (c .before .before .before .before .before .before .before .before .args .input .now) (l .from) (c .before .before .before .before .before .before .before .before .args .u .to) (c .before .line-end .result) (omega arith) (omega arith) (c .before .line-end .ensures .0) (omega arith))); to≡ = refl; ended≡ = refl })),
+    )
 
 pub read-block-spec : {M : Type 1} → statement M
 read-block-spec =

@@ -1,10 +1,10 @@
 -- `desk::output::print_answer` meets its contract. Assumes nothing.
-use mathlib.Core.Path.{sym, ap, _∙_}
+use mathlib.Core.Path.{sym}
+use mathlib.Core.Bool.{true, false}
 use native.Mathlib.Omega.{arith}
 use lib.Seq.{length-take-le}
-use Rattle.lines.specs.Answer.{writing}
-use Rattle.lines.specs.declared.answer.Put.{Put}
 use Rattle.desk.proofs.Laws.{put-within}
+use Rattle.desk.proofs.PrintLaws.{print-behind, print-stuck, print-front, print-long}
 use borrow.Author.Needs.{needs}
 use Rattle.desk.proofs.output.print_answer.Statement.{statement}
 use Rattle.desk.proofs.output.print_answer.Tie as tie
@@ -21,9 +21,11 @@ same-length c = search needs
 returns : tie.Need-returns
 returns c =
     let s = c .before .before .before .before .before .before .before .before .before in
-    let call = c .before .before .before .before .before .put-answer in
-    put-within (s .args .number) (s .args .view) (s .args .rows .now) (s .args .out .now) (s .args .filled) (s .pre)
-    (ap (λ (p : Put). writing p (call .last .1 .1 .1 .0)) (sym (c .before .end .given .1)) ∙ call .ensures)
+    let call = c .before .before .before .before .before .put-answer in (
+      put-within (s .args .number) (s .args .view) (s .args .rows .now) (s .args .out .now) (s .args .filled) (s .pre)
+          (c .before .end .given .1) (call .ensures),
+      record { written = true; leaves = print-behind (s .args .number) (s .args .view) (s .args .rows .now) (s .args .out .now) (s .args .filled) (c .before .end .given .1) (call .ensures) },
+    )
 
 enum-told : tie.Need-enum-told
 enum-told c = search needs
@@ -41,7 +43,9 @@ same-length-2 : tie.Need-same-length-2
 same-length-2 c = search needs
 
 returns-2 : tie.Need-returns-2
-returns-2 c = search needs
+returns-2 c =
+    let s = c .before .before .before .before .before .before .before .before .before .before .before in
+    (omega arith, record { written = false; leaves = print-stuck (s .args .number) (s .args .view) (s .args .rows .now) (s .args .out .now) (s .args .filled) (c .before .before .before .enum-told .given .1) (c .before .before .before .before .before .before .before .put-answer .ensures) })
 
 put-answer-requires-2 : tie.Need-put-answer-requires-2
 put-answer-requires-2 c κs = search needs
@@ -54,8 +58,11 @@ same-length-3 c = search needs
 
 returns-3 : tie.Need-returns-3
 returns-3 c =
-    let call = c .before .before .before .before .before .put-answer2 in
-    put-within _ _ _ _ 0 (omega arith) (ap (λ (p : Put). writing p (call .last .1 .1 .1 .0)) (sym (c .before .end2 .given .1)) ∙ call .ensures)
+    let s = c .before .before .before .before .before .before .before .before .before .before .before .before .before .before .before .before .before .before in
+    let call = c .before .before .before .before .before .put-answer2 in (
+      put-within _ _ _ _ 0 (omega arith) (c .before .end2 .given .1) (call .ensures),
+      record { written = true; leaves = print-front (s .args .number) (s .args .view) (s .args .rows .now) (s .args .out .now) (s .args .filled) (c .before .before .before .before .before .before .before .before .before .before .enum-told .given .1) (c .before .before .before .before .before .before .before .before .before .before .before .before .before .before .put-answer .ensures) (c .before .end2 .given .1) (call .ensures) },
+    )
 
 enum-told-2 : tie.Need-enum-told-2
 enum-told-2 c = search needs
@@ -64,7 +71,9 @@ same-length-4 : tie.Need-same-length-4
 same-length-4 c = search needs
 
 returns-4 : tie.Need-returns-4
-returns-4 c = search needs
+returns-4 c =
+    let s = c .before .before .before .before .before .before .before .before .before .before .before .before .before .before .before .before .before in
+    (omega arith, record { written = true; leaves = print-long (s .args .number) (s .args .view) (s .args .rows .now) (s .args .out .now) (s .args .filled) (c .before .before .before .before .before .before .before .before .before .enum-told .given .1) (c .before .before .before .before .before .before .before .before .before .before .before .before .before .put-answer .ensures) (c .enum-told2 .given .1) (c .before .before .before .before .put-answer2 .ensures) })
 
 pub print-answer-spec : {M : Type 1} → statement M
 print-answer-spec =

@@ -1,17 +1,19 @@
--- `desk::output::print_block` meets its contract. The invariant: the order rows that the answers left count are still to come. Assumes nothing.
+-- `desk::output::print_block` meets its contract. The invariant: the order rows that the answers left count are still to come, and so
+-- are their texts. Assumes nothing.
 use Prim.Native.Nat.{ℕ, _+_, _*_, _-_, _≤_}
 use mathlib.Core.Path.{_≡_, refl, _∙_, ap}
 use native.Mathlib.Omega.{arith}
-use lib.ListN.{length, drop}
+use lib.ListN.{length, take, drop}
 use borrow.Author.Needs.{needs}
-use mathlib.Core.List.{List}
-use Rattle.desk.specs.Output.{counts, filledTo}
+use mathlib.Core.List.{List, _∷_}
+use Rattle.desk.specs.Output.{counts, filledTo, texts, Gathered}
 use Rattle.desk.proofs.Laws.{counts-next}
+use Rattle.desk.proofs.PrintLaws.{gathered-all, gathered-more, texts-next, texts-done}
 use Rattle.desk.proofs.output.print_block.Statement.{statement}
 use Rattle.desk.proofs.output.print_block.Tie as tie
 
 abbrev Inv-loop : tie.InvT-loop
-Inv-loop requests answers orders out₀ filled end₀ used₀ at₀ out end used at = (at ≤ length answers) × (used + counts (drop at answers) * 3 ≤ length orders) × (end ≤ length out) × (length out ≡ length out₀)
+Inv-loop requests answers orders out₀ filled end₀ used₀ at₀ out end used at = (at ≤ length answers) × (used + counts (drop at answers) * 3 ≤ length orders) × (end ≤ length out) × (length out ≡ length out₀) × ((r : ℕ) (now : List ℕ) → Gathered (take end out ∷ texts (drop at requests) (drop at answers) (drop used orders)) r now → Gathered (take filled out₀ ∷ texts requests answers orders) r now)
 
 abbrev μ-loop : tie.MeasureT-loop
 μ-loop requests answers orders out₀ filled end₀ used₀ at₀ out end used at = length answers - at
@@ -31,7 +33,7 @@ used-more c =
     omega (arith, counts-next (answers-of c) (l .at) (omega arith), c .wide .ensures, l .inv .1)
 
 loop-holds : tie.Need-loop-holds Inv-loop μ-loop
-loop-holds c = (omega arith, omega (arith, c .before .before .before .before .pre), omega arith, refl)
+loop-holds c = (omega arith, omega (arith, c .before .before .before .before .pre), omega arith, refl, λ r now p. p)
 
 sub-loop : tie.Need-sub-loop Inv-loop μ-loop
 sub-loop c = omega arith
@@ -105,7 +107,7 @@ same-length c =
     call .kept .1 .1 .1 .0 ∙ c .before .before .before .before .before .before .before .before .before .before .before .before .before .before .loop .inv .3
 
 returns : tie.Need-returns Inv-loop μ-loop
-returns c = omega arith
+returns c = (omega arith, tt)
 
 add-at : tie.Need-add-at Inv-loop μ-loop
 add-at c = omega arith
@@ -117,15 +119,27 @@ loop-again : tie.Need-loop-again Inv-loop μ-loop
 loop-again c =
     let l = c .before .before .before .before .before .before .before .before .before .before .before .before .before .before .before .loop in
     let call = c .before .before .before .before .before .print-answer in
-    let fits : filledTo (call .result) ≤ length (call .last .1 .1 .1 .0) = call .ensures in
+    let fits : filledTo (call .result) ≤ length (call .last .1 .1 .1 .0) = call .ensures .0 in
     let told : filledTo (call .result) ≡ c .before .p .given .0 .0 = ap filledTo (c .before .p .given .1) in
-    (omega arith, used-more (c .before .before .before .before .before .before .before .before), omega arith, call .kept .1 .1 .1 .0 ∙ l .inv .3)
+    let s = c .before .before .before .before .before .before .before .before .before .before .before .before .before .before .before .before .before .before .before .before in
+    let more = texts-next (s .args .requests .now) (s .args .answers .now) (s .args .orders .now) (l .at) (l .used) (omega arith) (s .pre .0) (c .before .before .before .before .before .before .before .before .before .before .before .number-told .ensures) (c .before .before .before .before .before .before .before .before .wide .ensures) in (
+      omega arith,
+      used-more (c .before .before .before .before .before .before .before .before),
+      omega arith,
+      call .kept .1 .1 .1 .0 ∙ l .inv .3,
+      λ r now p.
+          l .inv .4 r now
+          (rw more (gathered-more _ _ _ (l .out) (l .end) (call .ensures .1 .written) (l .inv .2) (c .before .p .given .1) (call .ensures .1 .leaves) r now p)),
+    )
 
 same-length-2 : tie.Need-same-length-2 Inv-loop μ-loop
 same-length-2 c = omega arith
 
 returns-2 : tie.Need-returns-2 Inv-loop μ-loop
-returns-2 c = omega arith
+returns-2 c =
+    let l = c .before .loop in
+    let s = c .before .before .before .before .before .before in
+    (omega arith, l .inv .4 (l .end) (l .out) (rw (texts-done (s .args .requests .now) (s .args .answers .now) (s .args .orders .now) (l .at) (l .used) (c .loop-test .left)) (gathered-all (l .end) (l .out))))
 
 pub print-block-spec : {M : Type 1} → statement M
 print-block-spec =
