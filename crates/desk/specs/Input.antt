@@ -1,9 +1,10 @@
 -- The input buffer: where lines end in it, and the part of it that is not yet taken.
 -- Assumes nothing.
 use Prim.Native.Nat.{ℕ, _-_, _≤_}
-use mathlib.Core.Bool.{Bool, cond}
+use mathlib.Core.Path.{_≡_}
+use mathlib.Core.Bool.{Bool, true, false, cond, _||_}
 use mathlib.Core.List.{List, [], _∷_}
-use lib.Dec.{eqb}
+use lib.Dec.{eqb, ltb}
 use lib.ListN.{length, take, drop}
 use Rattle.lines.specs.Request.{longer}
 use Rattle.lines.specs.declared.request.First.{First}
@@ -31,6 +32,15 @@ pub record Within (u : Unread) (input : List ℕ) : Type 0 where
 pub record Kept (u : Unread) : Type 0 where
   pub front : u .from ≤ 0
   pub short : u .to ≤ 512
+
+-- an unfinished line that is longer than a line may be: nothing of it is kept
+unfoldable pub tooLong : Unread → Bool
+tooLong u = u .cut || ltb 512 (u .to - u .from)
+
+-- what is kept of an unfinished line: all its bytes, or none, and then it is marked as cut
+pub record Keeps (u : Unread) (input : List ℕ) (r : Unread) (now : List ℕ) : Type 0 where
+  pub marked : r ≡ cond (tooLong u) (record { from = 0; to = 0; cut = true; ended = false }) (record { from = 0; to = u .to - u .from; cut = false; ended = false })
+  pub bytes : take (r .to) now ≡ cond (tooLong u) [] (between (u .from) (u .to) input)
 
 -- what the first line names is a mode
 abbrev pub Moded : First → Type 0

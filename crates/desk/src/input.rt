@@ -7,7 +7,7 @@ ghost use Prim.Native.Nat.{_-_, _≤_, _<_};
 ghost use lib.ListN.{length};
 ghost use Rattle.rows.specs.Number.{stored};
 ghost use Rattle.rules.specs.Lists.{first};
-ghost use Rattle.desk.specs.Input.{newline, between, Within, Kept, Moded};
+ghost use Rattle.desk.specs.Input.{newline, between, Within, Kept, Keeps, Moded};
 
 // The buffer's bytes: a line too long to be a request and one read more.
 pub const INPUT: usize = 16384;
@@ -58,6 +58,7 @@ fn to_front(input: &mut [u8], from: usize, to: usize) -> usize
 fn keep_start(input: &mut [u8], u: Unread) -> Unread
     requires { ⌜ Within u (now input) ⌝ }
     ensures { λ r. ⌜ Kept r ⌝ }
+    ensures { λ r. ⌜ Keeps u (now (input .entry)) r (now (input .exit)) ⌝ }
 {
     let from = u.from;
     let to = u.to;
