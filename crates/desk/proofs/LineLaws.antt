@@ -6,7 +6,7 @@ use mathlib.Core.Bool.{Bool, true, false, cond}
 use mathlib.Core.List.{List, [], _∷_, _++_, append-assoc, append-nil}
 use native.Mathlib.Numerals.{add-one}
 use native.Mathlib.Omega.{arith}
-use lib.Dec.{eqb, leb, ltb}
+use lib.Dec.{eqb, ltb}
 use lib.ListN.{length, take, drop, getD, set, length-drop}
 use lib.Seq.{take-nil, take-take, take-suc, drop-drop, getD-drop, length-take-le}
 use borrow.Author.Tests.{le-leb, lt-leb, ne-eqb}
