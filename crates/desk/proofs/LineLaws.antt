@@ -13,9 +13,11 @@ use borrow.Author.Tests.{le-leb, lt-leb, ne-eqb}
 use Rattle.rows.specs.Number.{stored}
 use Rattle.rows.proofs.Laws.{stored-add, stored-first, stored-rest, length-stored}
 use Rattle.rules.specs.Lists.{first}
-use Rattle.lines.specs.Request.{longer, lineAsks}
+use Rattle.lines.specs.Request.{longer, lineAsks, firstLine}
+use Rattle.lines.specs.declared.request.First.{First}
+use Rattle.lines.specs.declared.request.First.the-variants.{Malformed}
 use Rattle.lines.specs.declared.request.Asked.{Asked}
-use Rattle.desk.specs.Input.{newline, linesIn, between, Within, tooLong, Keeps}
+use Rattle.desk.specs.Input.{newline, linesIn, between, Within, tooLong, Keeps, modeTaken}
 use Rattle.desk.specs.declared.input.Unread.{Unread}
 use Rattle.desk.specs.Block.{rowFor, numbersOf, mostOf, rowsOf, span, lineCount, Takes}
 use Rattle.lines.proofs.Putting.{put-byte}
@@ -198,3 +200,18 @@ module _ (u : Unread) (input : List ℕ) where
         marked = rw (e, k);
         bytes = rw e (ap₂ (λ (x : ℕ) (y : List ℕ). take x y) long f ∙ stored-first part input);
       }
+
+-- ---- the first line
+
+module _ (u : Unread) where
+  pub mode-cut : u .cut ≡ true → (ls : List (List ℕ)) → record { first = Malformed; unread = u } ≡ modeTaken u (u .cut) ls
+  mode-cut e ls = ap (λ (z : Bool). modeTaken u z ls) (sym e)
+
+  pub mode-none : {ls : List (List ℕ)} → u .cut ≡ false → ls ≡ [] → record { first = Malformed; unread = u } ≡ modeTaken u (u .cut) ls
+  mode-none e p = ap₂ (λ (z : Bool) (x : List (List ℕ)). modeTaken u z x) (sym e) (sym p)
+
+  pub mode-of : {l : List ℕ} {ls ls′ : List (List ℕ)} {f : First} {end : ℕ} → u .cut ≡ false → ls ≡ l ∷ ls′ → f ≡ firstLine l → end ≡ u .from + length l + 1
+      → record { first = f; unread = record { from = end; to = u .to; cut = false; ended = u .ended } } ≡ modeTaken u (u .cut) ls
+  mode-of {l} {ls} {ls′} {f} {end} e p q d =
+      ap₂ (λ (x : First) (n : ℕ). record { first = x; unread = record { from = n; to = u .to; cut = false; ended = u .ended } }) q d
+      ∙ ap₂ (λ (z : Bool) (x : List (List ℕ)). modeTaken u z x) (sym e) (sym p)
