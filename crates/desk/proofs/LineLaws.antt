@@ -6,16 +6,19 @@ use mathlib.Core.Bool.{Bool, true, false, cond}
 use mathlib.Core.List.{List, [], _∷_, _++_, append-assoc, append-nil}
 use native.Mathlib.Numerals.{add-one}
 use native.Mathlib.Omega.{arith}
-use lib.Dec.{eqb, leb}
+use lib.Dec.{eqb, ltb}
 use lib.ListN.{length, take, drop, getD, set, length-drop}
 use lib.Seq.{take-nil, take-take, take-suc, drop-drop, getD-drop, length-take-le}
 use borrow.Author.Tests.{le-leb, lt-leb, ne-eqb}
 use Rattle.rows.specs.Number.{stored}
-use Rattle.rows.proofs.Laws.{stored-add, stored-rest, length-stored}
+use Rattle.rows.proofs.Laws.{stored-add, stored-first, stored-rest, length-stored}
 use Rattle.rules.specs.Lists.{first}
-use Rattle.lines.specs.Request.{longer, lineAsks}
+use Rattle.lines.specs.Request.{longer, lineAsks, firstLine}
+use Rattle.lines.specs.declared.request.First.{First}
+use Rattle.lines.specs.declared.request.First.the-variants.{Malformed}
 use Rattle.lines.specs.declared.request.Asked.{Asked}
-use Rattle.desk.specs.Input.{newline, linesIn, between}
+use Rattle.desk.specs.Input.{newline, linesIn, between, Within, tooLong, Keeps, modeTaken}
+use Rattle.desk.specs.declared.input.Unread.{Unread}
 use Rattle.desk.specs.Block.{rowFor, numbersOf, mostOf, rowsOf, span, lineCount, Takes}
 use Rattle.lines.proofs.Putting.{put-byte}
 use Rattle.desk.proofs.PrintLaws.{taken-stored}
@@ -172,3 +175,43 @@ front-more t from i {now} h e =
     put-byte (getD now (from + i) 0) i now (omega arith) .holds
     ∙ (ap₂ (λ (b : ℕ) (x : List ℕ). stored i (b ∷ []) x) byte e
     ∙ (stored-add 0 (take i rest) (getD rest i 0 ∷ []) t i (omega arith) (omega arith) ∙ ap (λ (x : List ℕ). stored 0 x t) (sym one)))
+
+-- ---- what is kept of it
+
+module _ (u : Unread) where
+  pub long-cut : u .cut ≡ true → tooLong u ≡ true
+  unfolding tooLong
+  long-cut e = rw e
+
+  pub long-by : {z : Bool} → u .cut ≡ false → ltb 512 (u .to - u .from) ≡ z → tooLong u ≡ z
+  unfolding tooLong
+  long-by e f = rw e f
+
+module _ (u : Unread) (input : List ℕ) where
+  pub keeps-none : tooLong u ≡ true → (now : List ℕ) → Keeps u input (record { from = 0; to = 0; cut = true; ended = false }) now
+  keeps-none e now = record { marked = rw e; bytes = rw e }
+
+  pub keeps-all : tooLong u ≡ false → Within u input → {n : ℕ} {now : List ℕ} → n ≡ u .to - u .from → now ≡ stored 0 (between (u .from) (u .to) input) input
+      → Keeps u input (record { from = 0; to = n; cut = false; ended = false }) now
+  keeps-all e w {n} {now} k f =
+      let part : List ℕ = between (u .from) (u .to) input in
+      let long : n ≡ length part = k ∙ sym (part-long input (u .from) (u .to) (first newline part) (w .ordered) (w .inside) refl) in
+      record {
+        marked = rw (e, k);
+        bytes = rw e (ap₂ (λ (x : ℕ) (y : List ℕ). take x y) long f ∙ stored-first part input);
+      }
+
+-- ---- the first line
+
+module _ (u : Unread) where
+  pub mode-cut : u .cut ≡ true → (ls : List (List ℕ)) → record { first = Malformed; unread = u } ≡ modeTaken u (u .cut) ls
+  mode-cut e ls = ap (λ (z : Bool). modeTaken u z ls) (sym e)
+
+  pub mode-none : {ls : List (List ℕ)} → u .cut ≡ false → ls ≡ [] → record { first = Malformed; unread = u } ≡ modeTaken u (u .cut) ls
+  mode-none e p = ap₂ (λ (z : Bool) (x : List (List ℕ)). modeTaken u z x) (sym e) (sym p)
+
+  pub mode-of : {l : List ℕ} {ls ls′ : List (List ℕ)} {f : First} {end : ℕ} → u .cut ≡ false → ls ≡ l ∷ ls′ → f ≡ firstLine l → end ≡ u .from + length l + 1
+      → record { first = f; unread = record { from = end; to = u .to; cut = false; ended = u .ended } } ≡ modeTaken u (u .cut) ls
+  mode-of {l} {ls} {ls′} {f} {end} e p q d =
+      ap₂ (λ (x : First) (n : ℕ). record { first = x; unread = record { from = n; to = u .to; cut = false; ended = u .ended } }) q d
+      ∙ ap₂ (λ (z : Bool) (x : List (List ℕ)). modeTaken u z x) (sym e) (sym p)

@@ -12,6 +12,7 @@ ghost use Prim.Native.Nat.{_+_, _*_, _≤_};
 ghost use lib.ListN.{length, take};
 ghost use Rattle.rows.specs.Number.{stored};
 ghost use Rattle.rules.specs.Bytes.{tables};
+ghost use Rattle.rules.specs.Calls.{serving, serveCall};
 ghost use Rattle.plan.specs.Judge.{Ready};
 ghost use Rattle.lines.specs.Request.{lineAsks};
 ghost use Rattle.desk.specs.Input.{Within};
@@ -131,6 +132,7 @@ pub fn serve_block(
     requires { ⌜ Ready h (tables (now iv) (now it) (now ov) (now ot) (now rs)) ⌝ }
     requires { ⌜ Enough (now requests) (now answers) (now orders) ⌝ }
     ensures { λ s. ⌜ Answered s (tables (now (iv .exit)) (now (it .exit)) (now (ov .exit)) (now (ot .exit)) (now (rs .exit))) (take (length (now (requests .entry))) (now (answers .exit))) (now (orders .exit)) ⌝ }
+    ensures { λ s. ⌜ serving s (tables (now (iv .exit)) (now (it .exit)) (now (ov .exit)) (now (ot .exit)) (now (rs .exit))) (now (answers .exit)) (now (orders .exit)) ≡ serveCall (now (requests .entry)) h (tables (now (iv .entry)) (now (it .entry)) (now (ov .entry)) (now (ot .entry)) (now (rs .entry))) (now (answers .entry)) (now (orders .entry)) ⌝ }
 {
     serve(h, iv, it, ov, ot, rs, requests, answers, orders)
 }

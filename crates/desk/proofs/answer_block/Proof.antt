@@ -39,7 +39,7 @@ same-length-7 : tie.Need-same-length-7
 same-length-7 c = search needs
 
 returns : tie.Need-returns
-returns c = absurd (never-refused _ (c .enum-told .given .1) (c .before .before .before .before .before .before .before .before .before .before .before .before .before .before .before .before .serve-block .ensures .serves))
+returns c = absurd (never-refused _ (c .enum-told .given .1) (c .before .before .before .before .before .before .before .before .before .before .before .before .before .before .before .before .serve-block .ensures .0 .serves))
 
 slice-reshare-prefix-print-block : tie.Need-slice-reshare-prefix-print-block
 slice-reshare-prefix-print-block c = omega (arith, c .before .before .before .before .before .before .before .before .before .before .before .before .before .before .before .before .before .serve-block .kept .1 .1 .1 .1 .1 .1 .1 .0, c .before .before .before .before .before .before .before .before .before .before .before .before .before .before .before .before .before .before .before .before .before .before .before .before .before .before .before .before .before .before .before .before .before .before .before .before .pre .1 .0 .answered)
@@ -51,7 +51,7 @@ print-block-requires : tie.Need-print-block-requires
 print-block-requires c κs =
     let serve = c .before .before .before .before .before .before .before .before .before .before .before .before .before .before .before .before .before .before .before .before .serve-block in
     let s = c .before .before .before .before .before .before .before .before .before .before .before .before .before .before .before .before .before .before .before .before .before .before .before .before .before .before .before .before .before .before .before .before .before .before .before .before .before .before .before in
-    (omega (arith, length-take-le (length (s .args .requests .now)) (serve .last .1 .1 .1 .1 .1 .1 .1 .0) (omega (arith, serve .kept .1 .1 .1 .1 .1 .1 .1 .0, s .pre .1 .0 .answered))), (serve .ensures .within, s .pre .1 .1))
+    (omega (arith, length-take-le (length (s .args .requests .now)) (serve .last .1 .1 .1 .1 .1 .1 .1 .0) (omega (arith, serve .kept .1 .1 .1 .1 .1 .1 .1 .0, s .pre .1 .0 .answered))), (serve .ensures .0 .within, s .pre .1 .1))
 
 printed-requires : tie.Need-printed-requires
 printed-requires c κs = search needs
@@ -85,7 +85,7 @@ returns-2 c =
     let serve = c .before .before .before .before .before .before .before .before .before .before .before .before .before .before .before .before .before .before .before .before .before .before .before .before .serve-block in
     let p = c .printed .ensures in
     let out = c .before .before .before .print-block .ensures in
-    (ready-by (p .head≡) (served-ready _ (c .before .before .before .before .before .before .before .before .served .given .1) (serve .ensures .serves)), (p .unread≡, omega (arith, p .filled≡, out)))
+    (ready-by (p .head≡) (served-ready _ (c .before .before .before .before .before .before .before .before .served .given .1) (serve .ensures .0 .serves)), (p .unread≡, omega (arith, p .filled≡, out)))
 
 pub answer-block-spec : {M : Type 1} → statement M
 answer-block-spec =

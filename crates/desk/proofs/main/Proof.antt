@@ -73,7 +73,7 @@ answer-all-requires : tie.Need-answer-all-requires
 answer-all-requires c κs =
     let taken = c .before .before .before .before .before .before .before .before .before .before .before .before .before .before .before .before .take-mode in
     record {
-      ready = fresh-ready _ _ _ _ _ (c .before .before .before .before .before .before .before .before .before .before .before .inner-vertices .ensures) (c .before .before .before .before .before .before .before .before .before .before .inner-tokens .ensures) (c .before .before .before .before .before .before .before .before .before .outer-vertices .ensures) (c .before .before .before .before .before .before .before .before .outer-tokens .ensures) (c .before .before .before .before .before .before .before .resources .ensures) _ (mode-named (c .before .before .before .before .before .before .before .before .before .before .before .before .before .first .given .1) (taken .ensures .1)) (c .before .before .before .before .before .before .empty-head .ensures);
+      ready = fresh-ready _ _ _ _ _ (c .before .before .before .before .before .before .before .before .before .before .before .inner-vertices .ensures) (c .before .before .before .before .before .before .before .before .before .before .inner-tokens .ensures) (c .before .before .before .before .before .before .before .before .before .outer-vertices .ensures) (c .before .before .before .before .before .before .before .before .outer-tokens .ensures) (c .before .before .before .before .before .before .before .resources .ensures) _ (mode-named (c .before .before .before .before .before .before .before .before .before .before .before .before .before .first .given .1) (taken .ensures .1 .0)) (c .before .before .before .before .before .before .empty-head .ensures);
       within = taken .ensures .0;
       long = omega (arith, c .before .before .before .before .before .before .before .before .before .before .before .before .before .before .before .before .before .before .before .read-first .kept .0, c .before .before .before .before .before .before .before .before .before .before .before .before .before .before .before .before .before .before .before .before .before .input-bytes .ensures);
       none = refl;
