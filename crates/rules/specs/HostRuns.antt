@@ -1,0 +1,76 @@
+-- Hosts that obey, run from the definitions: what they have after the runs of P1 to P10, and which orders cannot be obeyed then. A row: what the definitions
+-- give, and what it should be.
+-- Assumes nothing.
+use Prim.Native.Nat.{ℕ}
+use mathlib.Core.Path.{refl}
+use mathlib.Core.Bool.{false, cond}
+use mathlib.Core.List.{List, [], _∷_, _++_, map, flatMap}
+use Rattle.sets.specs.Sets.{sizeIn, size}
+use Rattle.rules.specs.Lists.{every, some, keep, first, pairwise, numbered, tabulateFrom, tabulate, upTo}
+use Rattle.rules.specs.Layer.{setOf, ofSize, bySize, takes, cover, vertexFor, found, withVertex}
+use Rattle.rules.specs.Book.{Book, emptyLayer, emptyBook, resource, hasOuter, withInner, withOuter, withResources, withList, withLock}
+use Rattle.rules.specs.Holders.{into, sources, byToken, holders, holdersOf}
+use Rattle.rules.specs.Sound.{lockedFor}
+use Rattle.rules.specs.Requests.{done, order, _then_, vertexOrders, innerVertex, outerVertex, relock, lock, unlock, lockList, agrees, withSet, join, encrypt, lockNew, insert, letIn, neighbours, grouped, lockAll, settle, grant, revoke}
+use Rattle.rules.specs.Refusals.{Request, work}
+use Rattle.rules.specs.Host.{Graph, Store, hasKey, addKey, addToken, putInner, putOuter, putKeys, putLock, spoil, canObey, made, obeyed, obey, isJoin, nothingMade, emptyStore}
+use Rattle.rules.specs.Numbers.{Right, deltaRun, fullRun}
+use Rattle.rules.specs.declared.Order.{Order}
+
+-- a host that obeys the orders of requests one after the other
+unfoldable pub hostRun : List Request → Book → Store → Store
+hostRun [] b s = s
+hostRun (q ∷ qs) b s = hostRun qs (work q b .book) (obey (isJoin q) (work q b .orders) s)
+
+unfoldable pub deltaHost : Store
+deltaHost = hostRun deltaRun (emptyBook 1) emptyStore
+
+unfoldable pub fullHost : Store
+fullHost = hostRun fullRun (emptyBook 0) emptyStore
+
+-- a graph in numbers: its vertices, its tokens (from, to, kind), and whose keys were handed out
+unfoldable pub inNumbers : Graph → List ℕ
+inNumbers g = g .vertices ++ (flatMap (λ t. t .from ∷ t .to ∷ t .kind ∷ []) (g .tokens) ++ g .handed)
+
+-- 1 for an order that spoils the store
+unfoldable pub spoils : Store → List Order → List ℕ
+spoils s os = map (λ o. cond (obeyed false o s .spoilt) 1 0) os
+
+-- no such kind; a vertex that has a key, or whose second number is not 0; tokens from and to vertices without keys; a lock with one
+unfoldable pub unobeyable : List Order
+unobeyable =
+    order 0 0 0 ∷ order 8 0 0 ∷ order 1 5 0 ∷ order 1 6 1 ∷ order 4 3 0 ∷ order 4 4 1
+    ∷ order 2 6 0 ∷ order 2 0 6 ∷ order 5 4 0 ∷ order 5 0 4 ∷ order 6 4 0 ∷ order 6 0 4 ∷ order 3 0 6
+    -- a resource that is encrypted, one that is not the next, the next with a vertex that has no key
+    ∷ order 7 1 3 ∷ order 7 3 3 ∷ order 7 2 4 ∷ []
+
+-- and one of each kind that can be obeyed; a resource may be locked before it is encrypted
+unfoldable pub obeyable : List Order
+obeyable =
+    order 1 6 0 ∷ order 2 0 5 ∷ order 3 0 5 ∷ order 3 1 65535 ∷ order 3 2 0 ∷ order 4 4 0 ∷ order 5 0 3 ∷ order 6 0 3 ∷ order 7 2 3 ∷ []
+
+unfoldable pub hosts : List (List ℕ × List ℕ)
+hosts =
+    (inNumbers (deltaHost .inner), 0 ∷ 1 ∷ 2 ∷ 3 ∷ 0 ∷ 3 ∷ 0 ∷ 1 ∷ 3 ∷ 0 ∷ 2 ∷ 3 ∷ 1 ∷ 0 ∷ 1 ∷ 2 ∷ [])
+    ∷ (
+      inNumbers (deltaHost .outer),
+      0 ∷ 1 ∷ 2 ∷ 3 ∷ 4 ∷ 5 ∷ 0 ∷ 3 ∷ 0 ∷ 1 ∷ 3 ∷ 0 ∷ 0 ∷ 4 ∷ 0 ∷ 2 ∷ 4 ∷ 0 ∷ 0 ∷ 1 ∷ 2 ∷ [],
+    )
+    ∷ (deltaHost .keys, 3 ∷ 3 ∷ [])
+    ∷ (map (deltaHost .lock) (0 ∷ 1 ∷ 2 ∷ []), 65535 ∷ 5 ∷ 65535 ∷ [])
+    ∷ (fullHost .keys ++ (fullHost .lock 0 ∷ []), 0 ∷ 2 ∷ [])
+    ∷ (cond (deltaHost .spoilt) 1 0 ∷ cond (fullHost .spoilt) 1 0 ∷ [], 0 ∷ 0 ∷ [])
+    ∷ (spoils deltaHost unobeyable, 1 ∷ 1 ∷ 1 ∷ 1 ∷ 1 ∷ 1 ∷ 1 ∷ 1 ∷ 1 ∷ 1 ∷ 1 ∷ 1 ∷ 1 ∷ 1 ∷ 1 ∷ 1 ∷ [])
+    ∷ (spoils deltaHost obeyable, 0 ∷ 0 ∷ 0 ∷ 0 ∷ 0 ∷ 0 ∷ 0 ∷ 0 ∷ 0 ∷ [])
+    ∷ []
+
+pub host-examples : Right hosts
+unfolding Right hosts hostRun deltaHost fullHost inNumbers spoils unobeyable obeyable deltaRun fullRun work flatMap
+    hasKey addKey addToken putInner putOuter putKeys putLock spoil canObey made obeyed obey isJoin nothingMade emptyStore
+    sizeIn size every some keep first pairwise numbered tabulateFrom tabulate upTo
+    setOf ofSize bySize takes cover vertexFor found withVertex
+    emptyLayer emptyBook resource hasOuter withInner withOuter withResources withList withLock
+    into sources byToken holders holdersOf lockedFor
+    done _then_ vertexOrders innerVertex outerVertex relock lock unlock lockList agrees withSet join encrypt lockNew insert
+    letIn neighbours grouped lockAll settle grant revoke
+host-examples = (refl, (refl, (refl, (refl, (refl, (refl, (refl, (refl, tt))))))))
