@@ -152,15 +152,19 @@ empty-store m = refl
 pub fresh-store : (m : ℕ) (t : Tables) → storeOf (bookOf (fresh m t)) ≡ emptyStore
 fresh-store m t = ap storeOf (fresh-book m t) ∙ empty-store m
 
-module _ (m : ℕ) (h : m ≤ 1) (t : Tables) (cs : List Call) (e : every notRead cs ≡ true) where
+module _ (m : ℕ) (t : Tables) (cs : List Call) (e : every notRead cs ≡ true) where
+  pub fresh-obeyed : obeyRun cs (fresh m t) emptyStore ≡ storeOf (bookOf (run cs (fresh m t)))
+  fresh-obeyed = ap (obeyRun cs (fresh m t)) (sym (fresh-store m t)) ∙ obeyed-calls cs (fresh m t) e
+
   -- every folder that was inserted is encrypted
   pub fresh-keys : length (obeyRun cs (fresh m t) emptyStore .keys) ≡ length (told (history cs (fresh m t)) nobody .lists)
   fresh-keys =
-      ap (λ (s : Store). length (obeyRun cs (fresh m t) s .keys)) (sym (fresh-store m t)) ∙ run-keys cs (fresh m t) e
+      ap (λ (s : Store). length (s .keys)) fresh-obeyed ∙ keys-count (bookOf (run cs (fresh m t)))
       ∙ resources-of (bookOf (run cs (fresh m t))) (told (history cs (fresh m t)) (access (bookOf (fresh m t)))) (run-access cs (fresh m t))
       ∙ ap (λ (a : Access). length (told (history cs (fresh m t)) a .lists)) (fresh-access m t)
 
-  pub fresh-host-opens : (r : ℕ) → r < length (obeyRun cs (fresh m t) emptyStore .keys) → (u : ℕ)
+  -- and the requests alone decide who opens it
+  pub fresh-host-opens : m ≤ 1 → (r : ℕ) → r < length (obeyRun cs (fresh m t) emptyStore .keys) → (u : ℕ)
       → HostOpens (obeyRun cs (fresh m t) emptyStore) u r ↔ (has (getD (told (history cs (fresh m t)) nobody .lists) r 0) u ≡ true)
-  fresh-host-opens =
+  fresh-host-opens h =
       rw (fresh-store m t, fresh-access m t) at (run-host-told cs (fresh m t) e (fresh-sound m h t))
