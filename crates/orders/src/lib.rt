@@ -11,7 +11,7 @@ ghost use lib.ListN.{length, set};
 ghost use Rattle.rules.specs.Bytes.{tables};
 ghost use Rattle.rules.specs.Calls.{changing};
 ghost use Rattle.plan.specs.Judge.{requestOf};
-ghost use Rattle.orders.specs.Records.{orderAt, ordersIn, over, least, countOf, filled, recording, recorded};
+ghost use Rattle.orders.specs.Records.{orderAt, ordersIn, over, mostNumbers, least, countOf, filled, recording, recorded};
 
 // The most orders that a request gives (`rows-enough`).
 const MOST: usize = 385;
@@ -78,7 +78,7 @@ fn fill(
     rows: &mut [u16],
     room: usize,
 ) -> Changed
-    requires { ⌜ 1155 ≤ length (now rows) ⌝ }
+    requires { ⌜ mostNumbers ≤ length (now rows) ⌝ }
     ensures { λ c. ⌜ changing c (tables (now (iv .exit)) (now (it .exit)) (now (ov .exit)) (now (ot .exit)) (now (rs .exit))) (now (rows .exit)) ≡ filled (requestOf request) h (tables (now (iv .entry)) (now (it .entry)) (now (ov .entry)) (now (ot .entry)) (now (rs .entry))) room (now (rows .entry)) ⌝ }
 {
     let end = rows_for(room) * 3;
