@@ -1,9 +1,9 @@
 -- The C calls in a run: each is one call of Rattle.rules.specs.Runs on the head in the numbers, so demand 3 holds of what a C host keeps.
 -- Assumes nothing.
 use Prim.Native.Nat.{ℕ, _≤_, _<_}
-use mathlib.Core.Path.{_≡_, refl, sym, ap, _∙_}
+use mathlib.Core.Path.{_≡_, refl, ap, _∙_}
 use mathlib.Core.Bool.{true}
-use mathlib.Core.List.{List, [], _∷_, _++_}
+use mathlib.Core.List.{List, [], _∷_}
 use native.Mathlib.Omega.{arith}
 use lib.ListN.{length, drop, length-drop}
 use borrow.Author.Tests.{lt-ltb, le-ltb}
@@ -12,7 +12,7 @@ use Rattle.rules.specs.Sound.{sound}
 use Rattle.rules.specs.Bytes.{Tables}
 use Rattle.rules.specs.Refusals.{Request, joins, inserts, grants, revokes}
 use Rattle.rules.specs.Calls.{Change, change, Load, readCall, Service, serveCall}
-use Rattle.rules.specs.Runs.{Kept, keep, bookOf, Call, to-change, to-serve, to-read, headChanged, headServed, headLoaded, after, run}
+use Rattle.rules.specs.Runs.{Kept, keep, bookOf, to-change, to-serve, to-read, headChanged, headServed, headLoaded, after, run}
 use Rattle.rules.specs.declared.Head.{Head}
 use Rattle.rules.specs.declared.Changed.{Changed}
 use Rattle.rules.specs.declared.Changed.the-variants as changed
@@ -20,6 +20,7 @@ use Rattle.rules.specs.declared.Served.{Served}
 use Rattle.rules.specs.declared.Served.the-variants as served
 use Rattle.rules.specs.declared.Loaded.{Loaded}
 use Rattle.rules.specs.declared.Loaded.the-variants as loaded
+use Rattle.theorems.proofs.ServeLaws.{run-append}
 use Rattle.theorems.proofs.Demand.{Demand, demand-3}
 use Rattle.host.specs.Answers.{headLength, headFrom, headNumbers, readBy, readAnswer, changeTold, changeBy, changeAnswer, serveTold, serveBy, serveAnswer}
 use Rattle.host.specs.CRuns.{Held, hold, keptIn, bookHeld, CCall, c-check, c-section, c-read, c-write, c-join, c-insert, c-grant, c-revoke, c-view, c-open, c-serve, leftByChange, leftByRead, leftByServe, afterC, runC, called, calledAll}
@@ -113,11 +114,6 @@ c-short (c-view u r m) s n = refl
 c-short (c-open u r list i o) s n = refl
 
 -- ---- calls one after the other
-
-run-append : (bs cs : List Call) (k : Kept) → run (bs ++ cs) k ≡ run cs (run bs k)
-unfolding run
-run-append [] cs k = refl
-run-append (b ∷ bs) cs k = run-append bs cs (after b k)
 
 -- a run of C calls is a run of the calls that they are
 pub c-run : (cs : List CCall) (s : Held) → headLength ≤ length (s .numbers) → Leaves s (run (calledAll cs) (keptIn s)) (runC cs s)
