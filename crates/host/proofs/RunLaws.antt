@@ -98,7 +98,7 @@ module _ (s : Held) (n : headLength ≤ length (s .numbers)) where
   c-call (c-view u r m) = leaves-head s (s .tables)
   c-call (c-open u r list i o) = leaves-head s (s .tables)
 
--- a shorter head is 13 for each, and nothing changes
+-- a shorter head: nothing changes
 pub c-short : (c : CCall) (s : Held) → length (s .numbers) < headLength → afterC c s ≡ s
 unfolding afterC leftByChange leftByServe leftByRead changeAnswer serveAnswer readAnswer
 c-short (c-join list m) s n = rw (lt-ltb (length (s .numbers)) headLength n)

@@ -24,7 +24,8 @@ keptIn s = keep (headFrom (s .numbers)) (s .tables)
 abbrev pub bookHeld : Held → Book
 bookHeld s = bookIn (headFrom (s .numbers)) (s .tables)
 
--- a call of include/fenstubble.h: what is lent beside head and tables, the cells' content before the call, and its arguments
+-- a call of include/fenstubble.h with what it takes beside head and tables, in the header's order: bytes and lists, the cells' content before the call,
+-- numbers
 pub data CCall : Type 0 where
   c-check : CCall
   c-section : List ℕ → ℕ → ℕ → ℕ → CCall
