@@ -6,7 +6,8 @@
  * bytes for a table or a buffer, of numbers for a list.
  *
  * Order rows are three numbers each. The result is 0, or the refusal's number; 11 comes as 11 + 256 * view. A refusal leaves everything that was lent
- * as it was, but for the cells, which take 0. A head of fewer than 7 numbers is 13, like a table that is too short. */
+ * as it was, the cells for counts, views and lengths too: look at the result first. A head of fewer than 7 numbers is 13, like a table that is too
+ * short. */
 #ifndef FENSTUBBLE_H
 #define FENSTUBBLE_H
 
@@ -24,16 +25,16 @@
 /* 13 and 12: the tables are long enough and hold a sound book. */
 uint16_t fenstubble_check(const uint16_t *head, size_t head_len, FENSTUBBLE_CONST_TABLES);
 
-/* Section k (0 to 4) of a book's bytes is the stretch from *start on of *length bytes; both are 0 where it is refused. */
+/* Section k (0 to 4) of a book's bytes is the stretch from *start on of *length bytes. */
 uint16_t fenstubble_section(const uint8_t *book, size_t book_len, size_t k, size_t *start, size_t *length);
 
 /* A book's bytes into head and tables. */
 uint16_t fenstubble_read(const uint8_t *book, size_t book_len, uint16_t *head, size_t head_len, FENSTUBBLE_TABLES);
 
-/* The book as bytes into the buffer; *length is how many, 0 where it is refused. */
+/* The book as bytes into the buffer; *length is how many. */
 uint16_t fenstubble_write(const uint16_t *head, size_t head_len, FENSTUBBLE_CONST_TABLES, uint8_t *buffer, size_t buffer_len, size_t *length);
 
-/* The requests. *count is how many order rows were given, 0 where it is refused. */
+/* The requests. *count is how many order rows were given. */
 uint16_t fenstubble_join(uint16_t *head, size_t head_len, FENSTUBBLE_TABLES, uint16_t *orders, size_t orders_len, uint16_t *count);
 uint16_t fenstubble_insert(uint16_t *head, size_t head_len, FENSTUBBLE_TABLES, uint16_t *orders, size_t orders_len, uint16_t *count, uint64_t list);
 uint16_t fenstubble_grant(uint16_t *head, size_t head_len, FENSTUBBLE_TABLES, uint16_t *orders, size_t orders_len, uint16_t *count, uint16_t resource,
@@ -41,10 +42,10 @@ uint16_t fenstubble_grant(uint16_t *head, size_t head_len, FENSTUBBLE_TABLES, ui
 uint16_t fenstubble_revoke(uint16_t *head, size_t head_len, FENSTUBBLE_TABLES, uint16_t *orders, size_t orders_len, uint16_t *count, uint16_t resource,
                            uint16_t user);
 
-/* The view (0 to 3) of a user on a resource; 0 in the cell where it is refused. */
+/* The view (0 to 3) of a user on a resource. */
 uint16_t fenstubble_view(const uint16_t *head, size_t head_len, FENSTUBBLE_CONST_TABLES, uint16_t user, uint16_t resource, uint16_t *view);
 
-/* The token rows by which a user opens a resource: the inner chain's rows, then the outer chain's; both counts are 0 where it is refused. */
+/* The token rows by which a user opens a resource: the inner chain's rows, then the outer chain's; *inner and *outer are how many of each. */
 uint16_t fenstubble_open(const uint16_t *head, size_t head_len, FENSTUBBLE_CONST_TABLES, uint16_t user, uint16_t resource, uint16_t *list,
                          size_t list_len, uint16_t *inner, uint16_t *outer);
 

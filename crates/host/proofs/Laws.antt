@@ -11,8 +11,8 @@ use lib.ListN.{length}
 use borrow.Author.Tests.{lt-ltb, le-ltb, ltb-true, ltb-false}
 use Rattle.rows.specs.Number.{stored}
 use Rattle.rules.specs.Bytes.{Tables, headIn, start, isBook, bookIn}
-use Rattle.rules.specs.Refusals.{number, common, verdict, refusalSection}
-use Rattle.rules.specs.Calls.{Part, part, partBy, sectionCall, Load, loading, readCall, Write, writing, writeCall}
+use Rattle.rules.specs.Refusals.{number, common, verdict}
+use Rattle.rules.specs.Calls.{Part, part, sectionCall, Load, loading, readCall, Write, writing, writeCall}
 use Rattle.rules.specs.declared.Head.{Head}
 use Rattle.rules.specs.declared.Refusal.{Refusal}
 use Rattle.rules.specs.declared.Loaded.{Loaded}
@@ -23,7 +23,7 @@ use Rattle.sound.specs.Check.{checkedBy, checked}
 use Rattle.sound.specs.declared.Checked.{Checked}
 use Rattle.sound.specs.declared.Checked.the-variants.{Sound, No}
 use Rattle.book.proofs.Answers.{section-unsound, section-none}
-use Rattle.host.specs.Answers.{headFrom, headNumbers, told, checkAnswer, answered, stretchBy, sectionAnswer, loadedAs, readBy, readAnswer, writtenAs, writeBy, writeAnswer}
+use Rattle.host.specs.Answers.{headLength, headFrom, headNumbers, told, checkAnswer, answered, stretchBy, sectionAnswer, loadedAs, readBy, readAnswer, writtenAs, writeBy, writeAnswer}
 
 -- ---- check
 
@@ -37,21 +37,21 @@ unfolding checkedBy
 told-by none = refl
 told-by (some r) = refl
 
-check-told : (l : List ℕ) (t : Tables) {h : Head} {k : Checked} → 7 ≤ length l → h ≡ headFrom l → k ≡ checked h t → toldBy k ≡ checkAnswer l t
+check-told : (l : List ℕ) (t : Tables) {h : Head} {k : Checked} → headLength ≤ length l → h ≡ headFrom l → k ≡ checked h t → toldBy k ≡ checkAnswer l t
 unfolding checkAnswer checked
 check-told l t n eh ek =
-    rw (le-ltb (length l) 7 n)
+    rw (le-ltb (length l) headLength n)
     (ap toldBy (ek ∙ ap (λ (x : Head). checked x t) eh) ∙ told-by (verdict (common t (bookIn (headFrom l) t))))
 
-pub check-short : (l : List ℕ) (t : Tables) → length l < 7 → 13 ≡ checkAnswer l t
+pub check-short : (l : List ℕ) (t : Tables) → length l < headLength → 13 ≡ checkAnswer l t
 unfolding checkAnswer
-check-short l t n = rw (lt-ltb (length l) 7 n)
+check-short l t n = rw (lt-ltb (length l) headLength n)
 
-pub check-refused : (l : List ℕ) (t : Tables) {h : Head} {k : Checked} {n : Refusal} {r : ℕ} → 7 ≤ length l → h ≡ headFrom l → k ≡ checked h t → k ≡ No n
+pub check-refused : (l : List ℕ) (t : Tables) {h : Head} {k : Checked} {n : Refusal} {r : ℕ} → headLength ≤ length l → h ≡ headFrom l → k ≡ checked h t → k ≡ No n
     → r ≡ number n → r ≡ checkAnswer l t
 check-refused l t n eh ek is er = er ∙ sym (ap toldBy is) ∙ check-told l t n eh ek
 
-pub check-passed : (l : List ℕ) (t : Tables) {h : Head} {k : Checked} → 7 ≤ length l → h ≡ headFrom l → k ≡ checked h t → k ≡ Sound → 0 ≡ checkAnswer l t
+pub check-passed : (l : List ℕ) (t : Tables) {h : Head} {k : Checked} → headLength ≤ length l → h ≡ headFrom l → k ≡ checked h t → k ≡ Sound → 0 ≡ checkAnswer l t
 check-passed l t n eh ek is = sym (ap toldBy is) ∙ check-told l t n eh ek
 
 -- ---- section
@@ -68,46 +68,39 @@ section-passed bs k {n = n} p e = go (isBook bs) (ltb k 5) refl refl
     go true false eb ec = absurd (omega (arith, given, e, ap (λ (x : Part). x .cell) (section-none bs k eb (ltb-false k 5 ec))))
     go true true eb ec = (eb, ltb-true k 5 ec)
 
-pub section-given : (bs : List ℕ) (k : ℕ) {s : List ℕ} {n a : ℕ} {h : Head} → part s n ≡ sectionCall bs k → n ≡ 0 → h ≡ headIn bs → a ≡ start h k
-    → answered n a (length s) ≡ sectionAnswer bs k
+pub section-given : (bs : List ℕ) (k b m : ℕ) {s : List ℕ} {n a : ℕ} {h : Head} → part s n ≡ sectionCall bs k → n ≡ 0 → h ≡ headIn bs → a ≡ start h k
+    → answered 0 a (length s) ≡ sectionAnswer bs k b m
 unfolding sectionAnswer stretchBy
-section-given bs k p e eh ea =
-    (λ i. answered (e i) ((ea ∙ ap (λ (x : Head). start x k) eh) i) (length (p i .stretch)))
-    ∙ ap (stretchBy bs k) (sym e ∙ ap (λ (x : Part). x .cell) p)
+section-given bs k b m p e eh ea =
+    (λ i. answered 0 ((ea ∙ ap (λ (x : Head). start x k) eh) i) (length (p i .stretch)))
+    ∙ ap (stretchBy bs k b m) (sym e ∙ ap (λ (x : Part). x .cell) p)
 
--- a refusal gives no bytes
-none-given : (o : Option Refusal) (bs : List ℕ) (k : ℕ) {s : List ℕ} {n : ℕ} → part s n ≡ partBy o bs k → (n ≡ 0 → ⊥) → 0 ≡ length s
-unfolding partBy
-none-given none bs k p ne = absurd (ne (ap (λ (x : Part). x .cell) p))
-none-given (some r) bs k p ne = sym (ap (λ (x : Part). length (x .stretch)) p)
-
-stretch-none : (bs : List ℕ) (k n : ℕ) → (n ≡ 0 → ⊥) → answered n 0 0 ≡ stretchBy bs k n
+stretch-none : (bs : List ℕ) (k a m n : ℕ) → (n ≡ 0 → ⊥) → answered n a m ≡ stretchBy bs k a m n
 unfolding stretchBy
-stretch-none bs k zero ne = absurd (ne refl)
-stretch-none bs k (suc n) ne = refl
+stretch-none bs k a m zero ne = absurd (ne refl)
+stretch-none bs k a m (suc n) ne = refl
 
-pub section-refused : (bs : List ℕ) (k : ℕ) {s : List ℕ} {n : ℕ} → part s n ≡ sectionCall bs k → (n ≡ 0 → ⊥) → answered n 0 (length s) ≡ sectionAnswer bs k
-unfolding sectionAnswer sectionCall
-section-refused bs k {n = n} p ne =
-    sym (ap (answered n 0) (none-given (refusalSection bs k) bs k p ne)) ∙ stretch-none bs k n ne ∙ ap (λ (x : Part). stretchBy bs k (x .cell)) p
+pub section-refused : (bs : List ℕ) (k a m : ℕ) {s : List ℕ} {n : ℕ} → part s n ≡ sectionCall bs k → (n ≡ 0 → ⊥) → answered n a m ≡ sectionAnswer bs k a m
+unfolding sectionAnswer
+section-refused bs k a m {n = n} p ne = stretch-none bs k a m n ne ∙ ap (λ (x : Part). stretchBy bs k a m (x .cell)) p
 
 -- ---- read
 
-read-by : (bs l : List ℕ) (t : Tables) {a : Loaded} {u : Tables} → 7 ≤ length l → loading a u ≡ readCall bs t → readBy a l u ≡ readAnswer bs l t
+read-by : (bs l : List ℕ) (t : Tables) {a : Loaded} {u : Tables} → headLength ≤ length l → loading a u ≡ readCall bs t → readBy a l u ≡ readAnswer bs l t
 unfolding readAnswer
-read-by bs l t n p = rw (le-ltb (length l) 7 n) (ap (λ (x : Load). readBy (x .answer) l (x .tables)) p)
+read-by bs l t n p = rw (le-ltb (length l) headLength n) (ap (λ (x : Load). readBy (x .answer) l (x .tables)) p)
 
-pub read-short : (bs l : List ℕ) (t : Tables) → length l < 7 → loadedAs 13 l t ≡ readAnswer bs l t
+pub read-short : (bs l : List ℕ) (t : Tables) → length l < headLength → loadedAs 13 l t ≡ readAnswer bs l t
 unfolding readAnswer
-read-short bs l t n = rw (lt-ltb (length l) 7 n)
+read-short bs l t n = rw (lt-ltb (length l) headLength n)
 
-pub read-refused : (bs l : List ℕ) (t : Tables) {a : Loaded} {u : Tables} {n : Refusal} {r : ℕ} → 7 ≤ length l → loading a u ≡ readCall bs t → a ≡ loaded.No n
+pub read-refused : (bs l : List ℕ) (t : Tables) {a : Loaded} {u : Tables} {n : Refusal} {r : ℕ} → headLength ≤ length l → loading a u ≡ readCall bs t → a ≡ loaded.No n
     → r ≡ number n → loadedAs r l u ≡ readAnswer bs l t
 unfolding readBy
 read-refused bs l t {u = u} n p is er =
     ap (λ (x : ℕ). loadedAs x l u) er ∙ sym (ap (λ (x : Loaded). readBy x l u) is) ∙ read-by bs l t n p
 
-pub read-given : (bs l : List ℕ) (t : Tables) {a : Loaded} {u : Tables} {h : Head} {m : List ℕ} → 7 ≤ length l → loading a u ≡ readCall bs t → a ≡ loaded.Is h
+pub read-given : (bs l : List ℕ) (t : Tables) {a : Loaded} {u : Tables} {h : Head} {m : List ℕ} → headLength ≤ length l → loading a u ≡ readCall bs t → a ≡ loaded.Is h
     → m ≡ stored 0 (headNumbers h) l → loadedAs 0 m u ≡ readAnswer bs l t
 unfolding readBy
 read-given bs l t {u = u} n p is em =
@@ -115,23 +108,23 @@ read-given bs l t {u = u} n p is em =
 
 -- ---- write
 
-write-by : (l : List ℕ) (t : Tables) (b : List ℕ) {h : Head} {a : Stored} {d : List ℕ} → 7 ≤ length l → h ≡ headFrom l → writing a d ≡ writeCall h t b
-    → writeBy a d ≡ writeAnswer l t b
+write-by : (l : List ℕ) (t : Tables) (b : List ℕ) (k : ℕ) {h : Head} {a : Stored} {d : List ℕ} → headLength ≤ length l → h ≡ headFrom l → writing a d ≡ writeCall h t b
+    → writeBy a d k ≡ writeAnswer l t b k
 unfolding writeAnswer
-write-by l t b n eh p =
-    rw (le-ltb (length l) 7 n) (ap (λ (x : Write). writeBy (x .answer) (x .buffer)) (p ∙ ap (λ (x : Head). writeCall x t b) eh))
+write-by l t b k n eh p =
+    rw (le-ltb (length l) headLength n) (ap (λ (x : Write). writeBy (x .answer) (x .buffer) k) (p ∙ ap (λ (x : Head). writeCall x t b) eh))
 
-pub write-short : (l : List ℕ) (t : Tables) (b : List ℕ) → length l < 7 → writtenAs 13 b 0 ≡ writeAnswer l t b
+pub write-short : (l : List ℕ) (t : Tables) (b : List ℕ) (k : ℕ) → length l < headLength → writtenAs 13 b k ≡ writeAnswer l t b k
 unfolding writeAnswer
-write-short l t b n = rw (lt-ltb (length l) 7 n)
+write-short l t b k n = rw (lt-ltb (length l) headLength n)
 
-pub write-refused : (l : List ℕ) (t : Tables) (b : List ℕ) {h : Head} {a : Stored} {d : List ℕ} {n : Refusal} {r : ℕ} → 7 ≤ length l → h ≡ headFrom l
-    → writing a d ≡ writeCall h t b → a ≡ written.No n → r ≡ number n → writtenAs r d 0 ≡ writeAnswer l t b
+pub write-refused : (l : List ℕ) (t : Tables) (b : List ℕ) (k : ℕ) {h : Head} {a : Stored} {d : List ℕ} {n : Refusal} {r : ℕ} → headLength ≤ length l
+    → h ≡ headFrom l → writing a d ≡ writeCall h t b → a ≡ written.No n → r ≡ number n → writtenAs r d k ≡ writeAnswer l t b k
 unfolding writeBy
-write-refused l t b {d = d} n eh p is er =
-    ap (λ (x : ℕ). writtenAs x d 0) er ∙ sym (ap (λ (x : Stored). writeBy x d) is) ∙ write-by l t b n eh p
+write-refused l t b k {d = d} n eh p is er =
+    ap (λ (x : ℕ). writtenAs x d k) er ∙ sym (ap (λ (x : Stored). writeBy x d k) is) ∙ write-by l t b k n eh p
 
-pub write-given : (l : List ℕ) (t : Tables) (b : List ℕ) {h : Head} {a : Stored} {d : List ℕ} {n : ℕ} → 7 ≤ length l → h ≡ headFrom l
-    → writing a d ≡ writeCall h t b → a ≡ written.Bytes n → writtenAs 0 d n ≡ writeAnswer l t b
+pub write-given : (l : List ℕ) (t : Tables) (b : List ℕ) (k : ℕ) {h : Head} {a : Stored} {d : List ℕ} {n : ℕ} → headLength ≤ length l → h ≡ headFrom l
+    → writing a d ≡ writeCall h t b → a ≡ written.Bytes n → writtenAs 0 d n ≡ writeAnswer l t b k
 unfolding writeBy
-write-given l t b {d = d} n eh p is = sym (ap (λ (x : Stored). writeBy x d) is) ∙ write-by l t b n eh p
+write-given l t b k {d = d} n eh p is = sym (ap (λ (x : Stored). writeBy x d k) is) ∙ write-by l t b k n eh p

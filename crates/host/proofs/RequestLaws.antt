@@ -23,7 +23,7 @@ use Rattle.rules.specs.declared.Opened.{Opened}
 use Rattle.rules.specs.declared.Opened.the-variants as opened
 use Rattle.rules.specs.declared.Served.{Served}
 use Rattle.rules.specs.declared.Served.the-variants as served
-use Rattle.host.specs.Answers.{headFrom, headNumbers, resultOf, Told, toldAs, changeTold, changedAs, changeBy, changeAnswer, viewedAs, viewAs, viewAnswer, openedAs, openBy, openAnswer, serveTold, servedAs, serveBy, serveAnswer}
+use Rattle.host.specs.Answers.{headLength, headFrom, headNumbers, resultOf, Told, toldAs, changeTold, changedAs, changeBy, changeAnswer, viewedAs, viewAs, viewAnswer, openedAs, openBy, openAnswer, serveTold, servedAs, serveBy, serveAnswer}
 
 -- ---- a refusal's number
 
@@ -55,89 +55,96 @@ result-by n ek ev = ap₂ (λ (x y : ℕ). x + 256 * y) ek ev
 
 -- ---- the requests that change the book
 
-pub told-refused : {c : Changed} (l : List ℕ) {n : Refusal} {r : ℕ} → c ≡ changed.No n → r ≡ resultOf n → toldAs r l 0 ≡ changeTold c l
+pub told-refused : {c : Changed} (l : List ℕ) (k : ℕ) {n : Refusal} {r : ℕ} → c ≡ changed.No n → r ≡ resultOf n → toldAs r l k ≡ changeTold c l k
 unfolding changeTold
-told-refused l is er = ap (λ (x : ℕ). toldAs x l 0) er ∙ sym (ap (λ (x : Changed). changeTold x l) is)
+told-refused l k is er = ap (λ (x : ℕ). toldAs x l k) er ∙ sym (ap (λ (x : Changed). changeTold x l k) is)
 
-pub told-done : {c : Changed} (l : List ℕ) {h : Head} {n : ℕ} {m : List ℕ} → c ≡ changed.Done h n → m ≡ stored 0 (headNumbers h) l → toldAs 0 m n ≡ changeTold c l
+pub told-done : {c : Changed} (l : List ℕ) (k : ℕ) {h : Head} {n : ℕ} {m : List ℕ} → c ≡ changed.Done h n → m ≡ stored 0 (headNumbers h) l
+    → toldAs 0 m n ≡ changeTold c l k
 unfolding changeTold
-told-done l {n = n} is em = ap (λ (x : List ℕ). toldAs 0 x n) em ∙ sym (ap (λ (x : Changed). changeTold x l) is)
+told-done l k {n = n} is em = ap (λ (x : List ℕ). toldAs 0 x n) em ∙ sym (ap (λ (x : Changed). changeTold x l k) is)
 
-pub change-short : (q : Request) (l : List ℕ) (t : Tables) (list : List ℕ) → length l < 7 → changedAs 13 l t list 0 ≡ changeAnswer q l t list
+pub change-short : (q : Request) (l : List ℕ) (t : Tables) (list : List ℕ) (k : ℕ) → length l < headLength → changedAs 13 l t list k ≡ changeAnswer q l t list k
 unfolding changeAnswer
-change-short q l t list n = rw (lt-ltb (length l) 7 n)
+change-short q l t list k n = rw (lt-ltb (length l) headLength n)
 
-pub change-told : (q : Request) (l : List ℕ) (t : Tables) (list : List ℕ) {h : Head} {c : Changed} {u : Tables} {rows : List ℕ} {r : ℕ} {m : List ℕ} {k : ℕ}
-    → 7 ≤ length l → h ≡ headFrom l → changing c u rows ≡ change q h t list → toldAs r m k ≡ changeTold c l
-    → changedAs r m u rows k ≡ changeAnswer q l t list
+pub change-told : (q : Request) (l : List ℕ) (t : Tables) (list : List ℕ) (k : ℕ) {h : Head} {c : Changed} {u : Tables} {rows : List ℕ} {r : ℕ} {m : List ℕ} {e : ℕ}
+    → headLength ≤ length l → h ≡ headFrom l → changing c u rows ≡ change q h t list → toldAs r m e ≡ changeTold c l k
+    → changedAs r m u rows e ≡ changeAnswer q l t list k
 unfolding changeAnswer changeBy
-change-told q l t list {u = u} {rows = rows} n eh p e =
-    rw (le-ltb (length l) 7 n)
+change-told q l t list k {u = u} {rows = rows} n eh p e =
+    rw (le-ltb (length l) headLength n)
     (ap (λ (x : Told). changedAs (x .result) (x .head) u rows (x .count)) e
-    ∙ ap (λ (x : Change). changeBy x l) (p ∙ ap (λ (x : Head). change q x t list) eh))
+    ∙ ap (λ (x : Change). changeBy x l k) (p ∙ ap (λ (x : Head). change q x t list) eh))
 
 -- ---- view
 
-view-by : (u r : ℕ) (l : List ℕ) (t : Tables) {h : Head} {w : Viewed} → 7 ≤ length l → h ≡ headFrom l → w ≡ viewCall u r h t → viewAs w ≡ viewAnswer u r l t
+view-by : (u r : ℕ) (l : List ℕ) (t : Tables) (m : ℕ) {h : Head} {w : Viewed} → headLength ≤ length l → h ≡ headFrom l → w ≡ viewCall u r h t
+    → viewAs w m ≡ viewAnswer u r l t m
 unfolding viewAnswer
-view-by u r l t n eh p = rw (le-ltb (length l) 7 n) (ap viewAs (p ∙ ap (λ (x : Head). viewCall u r x t) eh))
+view-by u r l t m n eh p = rw (le-ltb (length l) headLength n) (ap (λ (x : Viewed). viewAs x m) (p ∙ ap (λ (x : Head). viewCall u r x t) eh))
 
-pub view-short : (u r : ℕ) (l : List ℕ) (t : Tables) → length l < 7 → viewedAs 13 0 ≡ viewAnswer u r l t
+pub view-short : (u r : ℕ) (l : List ℕ) (t : Tables) (m : ℕ) → length l < headLength → viewedAs 13 m ≡ viewAnswer u r l t m
 unfolding viewAnswer
-view-short u r l t n = rw (lt-ltb (length l) 7 n)
+view-short u r l t m n = rw (lt-ltb (length l) headLength n)
 
-pub view-refused : (u r : ℕ) (l : List ℕ) (t : Tables) {h : Head} {w : Viewed} {n : Refusal} {k : ℕ} → 7 ≤ length l → h ≡ headFrom l → w ≡ viewCall u r h t
-    → w ≡ viewed.No n → k ≡ resultOf n → viewedAs k 0 ≡ viewAnswer u r l t
+pub view-refused : (u r : ℕ) (l : List ℕ) (t : Tables) (m : ℕ) {h : Head} {w : Viewed} {n : Refusal} {k : ℕ} → headLength ≤ length l → h ≡ headFrom l
+    → w ≡ viewCall u r h t → w ≡ viewed.No n → k ≡ resultOf n → viewedAs k m ≡ viewAnswer u r l t m
 unfolding viewAs
-view-refused u r l t n eh p is ek = ap (λ (x : ℕ). viewedAs x 0) ek ∙ sym (ap viewAs is) ∙ view-by u r l t n eh p
+view-refused u r l t m n eh p is ek =
+    ap (λ (x : ℕ). viewedAs x m) ek ∙ sym (ap (λ (x : Viewed). viewAs x m) is) ∙ view-by u r l t m n eh p
 
-pub view-given : (u r : ℕ) (l : List ℕ) (t : Tables) {h : Head} {w : Viewed} {v : View} {k : ℕ} → 7 ≤ length l → h ≡ headFrom l → w ≡ viewCall u r h t
-    → w ≡ viewed.Is v → k ≡ viewNumber v → viewedAs 0 k ≡ viewAnswer u r l t
+pub view-given : (u r : ℕ) (l : List ℕ) (t : Tables) (m : ℕ) {h : Head} {w : Viewed} {v : View} {k : ℕ} → headLength ≤ length l → h ≡ headFrom l
+    → w ≡ viewCall u r h t → w ≡ viewed.Is v → k ≡ viewNumber v → viewedAs 0 k ≡ viewAnswer u r l t m
 unfolding viewAs
-view-given u r l t n eh p is ek = ap (viewedAs 0) ek ∙ sym (ap viewAs is) ∙ view-by u r l t n eh p
+view-given u r l t m n eh p is ek = ap (viewedAs 0) ek ∙ sym (ap (λ (x : Viewed). viewAs x m) is) ∙ view-by u r l t m n eh p
 
 -- ---- open
 
-open-by : (u r : ℕ) (l : List ℕ) (t : Tables) (list : List ℕ) {h : Head} {w : Opened} {d : List ℕ} → 7 ≤ length l → h ≡ headFrom l
-    → showing w d ≡ openCall u r h t list → openBy w d ≡ openAnswer u r l t list
-unfolding openAnswer
-open-by u r l t list n eh p =
-    rw (le-ltb (length l) 7 n) (ap (λ (x : Shown). openBy (x .answer) (x .list)) (p ∙ ap (λ (x : Head). openCall u r x t list) eh))
+-- the call, with what it is lent beside the tables
+module _ (u r : ℕ) (l : List ℕ) (t : Tables) (list : List ℕ) (a b : ℕ) where
+  open-by : {h : Head} {w : Opened} {d : List ℕ} → headLength ≤ length l → h ≡ headFrom l → showing w d ≡ openCall u r h t list
+      → openBy w d a b ≡ openAnswer u r l t list a b
+  unfolding openAnswer
+  open-by n eh p =
+      rw (le-ltb (length l) headLength n) (ap (λ (x : Shown). openBy (x .answer) (x .list) a b) (p ∙ ap (λ (x : Head). openCall u r x t list) eh))
 
-pub open-short : (u r : ℕ) (l : List ℕ) (t : Tables) (list : List ℕ) → length l < 7 → openedAs 13 list 0 0 ≡ openAnswer u r l t list
-unfolding openAnswer
-open-short u r l t list n = rw (lt-ltb (length l) 7 n)
+  pub open-short : length l < headLength → openedAs 13 list a b ≡ openAnswer u r l t list a b
+  unfolding openAnswer
+  open-short n = rw (lt-ltb (length l) headLength n)
 
-pub open-refused : (u r : ℕ) (l : List ℕ) (t : Tables) (list : List ℕ) {h : Head} {w : Opened} {d : List ℕ} {n : Refusal} {k : ℕ} → 7 ≤ length l
-    → h ≡ headFrom l → showing w d ≡ openCall u r h t list → w ≡ opened.No n → k ≡ resultOf n → openedAs k d 0 0 ≡ openAnswer u r l t list
-unfolding openBy
-open-refused u r l t list {d = d} n eh p is ek =
-    ap (λ (x : ℕ). openedAs x d 0 0) ek ∙ sym (ap (λ (x : Opened). openBy x d) is) ∙ open-by u r l t list n eh p
+  pub open-refused : {h : Head} {w : Opened} {d : List ℕ} {n : Refusal} {k : ℕ} → headLength ≤ length l → h ≡ headFrom l
+      → showing w d ≡ openCall u r h t list → w ≡ opened.No n → k ≡ resultOf n → openedAs k d a b ≡ openAnswer u r l t list a b
+  unfolding openBy
+  open-refused {d = d} n eh p is ek = ap (λ (x : ℕ). openedAs x d a b) ek ∙ sym (ap (λ (x : Opened). openBy x d a b) is) ∙ open-by n eh p
 
-pub open-given : (u r : ℕ) (l : List ℕ) (t : Tables) (list : List ℕ) {h : Head} {w : Opened} {d : List ℕ} {i o : ℕ} → 7 ≤ length l → h ≡ headFrom l
-    → showing w d ≡ openCall u r h t list → w ≡ opened.Chains i o → openedAs 0 d i o ≡ openAnswer u r l t list
-unfolding openBy
-open-given u r l t list {d = d} n eh p is = sym (ap (λ (x : Opened). openBy x d) is) ∙ open-by u r l t list n eh p
+  pub open-given : {h : Head} {w : Opened} {d : List ℕ} {i o : ℕ} → headLength ≤ length l → h ≡ headFrom l → showing w d ≡ openCall u r h t list
+      → w ≡ opened.Chains i o → openedAs 0 d i o ≡ openAnswer u r l t list a b
+  unfolding openBy
+  open-given {d = d} n eh p is = sym (ap (λ (x : Opened). openBy x d a b) is) ∙ open-by n eh p
 
 -- ---- serve
 
-pub all-refused : {s : Served} (l : List ℕ) {n : Refusal} {r : ℕ} → s ≡ served.No n → r ≡ resultOf n → toldAs r l 0 ≡ serveTold s l
+pub all-refused : {s : Served} (l : List ℕ) (k : ℕ) {n : Refusal} {r : ℕ} → s ≡ served.No n → r ≡ resultOf n → toldAs r l k ≡ serveTold s l k
 unfolding serveTold
-all-refused l is er = ap (λ (x : ℕ). toldAs x l 0) er ∙ sym (ap (λ (x : Served). serveTold x l) is)
+all-refused l k is er = ap (λ (x : ℕ). toldAs x l k) er ∙ sym (ap (λ (x : Served). serveTold x l k) is)
 
-pub all-done : {s : Served} (l : List ℕ) {h : Head} {n : ℕ} {m : List ℕ} → s ≡ served.Done h n → m ≡ stored 0 (headNumbers h) l → toldAs 0 m n ≡ serveTold s l
+pub all-done : {s : Served} (l : List ℕ) (k : ℕ) {h : Head} {n : ℕ} {m : List ℕ} → s ≡ served.Done h n → m ≡ stored 0 (headNumbers h) l
+    → toldAs 0 m n ≡ serveTold s l k
 unfolding serveTold
-all-done l {n = n} is em = ap (λ (x : List ℕ). toldAs 0 x n) em ∙ sym (ap (λ (x : Served). serveTold x l) is)
+all-done l k {n = n} is em = ap (λ (x : List ℕ). toldAs 0 x n) em ∙ sym (ap (λ (x : Served). serveTold x l k) is)
 
-pub serve-short : (requests l : List ℕ) (t : Tables) (answers list : List ℕ) → length l < 7 → servedAs 13 l t answers list 0 ≡ serveAnswer requests l t answers list
-unfolding serveAnswer
-serve-short requests l t answers list n = rw (lt-ltb (length l) 7 n)
+-- the call, with what it is lent beside the tables
+module _ (requests l : List ℕ) (t : Tables) (answers list : List ℕ) (k : ℕ) where
+  pub serve-short : length l < headLength → servedAs 13 l t answers list k ≡ serveAnswer requests l t answers list k
+  unfolding serveAnswer
+  serve-short n = rw (lt-ltb (length l) headLength n)
 
-pub serve-told : (requests l : List ℕ) (t : Tables) (answers list : List ℕ) {h : Head} {s : Served} {u : Tables} {given rows : List ℕ} {r : ℕ} {m : List ℕ} {k : ℕ}
-    → 7 ≤ length l → h ≡ headFrom l → serving s u given rows ≡ serveCall requests h t answers list → toldAs r m k ≡ serveTold s l
-    → servedAs r m u given rows k ≡ serveAnswer requests l t answers list
-unfolding serveAnswer serveBy
-serve-told requests l t answers list {u = u} {given = given} {rows = rows} n eh p e =
-    rw (le-ltb (length l) 7 n)
-    (ap (λ (x : Told). servedAs (x .result) (x .head) u given rows (x .count)) e
-    ∙ ap (λ (x : Service). serveBy x l) (p ∙ ap (λ (x : Head). serveCall requests x t answers list) eh))
+  pub serve-told : {h : Head} {s : Served} {u : Tables} {given rows : List ℕ} {r : ℕ} {m : List ℕ} {e : ℕ} → headLength ≤ length l → h ≡ headFrom l
+      → serving s u given rows ≡ serveCall requests h t answers list → toldAs r m e ≡ serveTold s l k
+      → servedAs r m u given rows e ≡ serveAnswer requests l t answers list k
+  unfolding serveAnswer serveBy
+  serve-told {u = u} {given = given} {rows = rows} n eh p e =
+      rw (le-ltb (length l) headLength n)
+      (ap (λ (x : Told). servedAs (x .result) (x .head) u given rows (x .count)) e
+      ∙ ap (λ (x : Service). serveBy x l k) (p ∙ ap (λ (x : Head). serveCall requests x t answers list) eh))

@@ -1,4 +1,5 @@
--- The C interface's answers, from the calls' definitions: numbers only.
+-- The C interface's answers, from the calls' definitions: numbers only. "A refusal changes nothing but a lent cell that takes its number": here the
+-- number is the result, and the cells, whose content at entry comes last among the arguments, stay as they were.
 -- Assumes nothing.
 use Prim.Native.Nat.{ℕ, zero, suc, _+_, _*_}
 use mathlib.Core.Bool.{Bool, cond}
@@ -25,7 +26,11 @@ use Rattle.rules.specs.declared.Loaded.the-variants as loaded
 use Rattle.rules.specs.declared.Stored.{Stored}
 use Rattle.rules.specs.declared.Stored.the-variants as written
 
--- the head in 7 numbers: mode, users, resources, inner vertices, inner tokens, outer vertices, outer tokens
+-- a head is 7 numbers
+abbrev pub headLength : ℕ
+headLength = 7
+
+-- mode, users, resources, inner vertices, inner tokens, outer vertices, outer tokens
 abbrev pub headFrom : List ℕ → Head
 headFrom l = head (getD l 0 0) (getD l 1 0) (getD l 2 0) (getD l 3 0) (getD l 4 0) (getD l 5 0) (getD l 6 0)
 
@@ -38,11 +43,11 @@ abbrev pub told : Option Refusal → ℕ
 told none = 0
 told (some r) = number r
 
--- a head of fewer than 7 numbers is 13
+-- a head of fewer numbers is 13
 unfoldable pub checkAnswer : List ℕ → Tables → ℕ
-checkAnswer l t = cond (ltb (length l) 7) 13 (told (verdict (common t (bookIn (headFrom l) t))))
+checkAnswer l t = cond (ltb (length l) headLength) 13 (told (verdict (common t (bookIn (headFrom l) t))))
 
--- a section as its start and length
+-- a section as its start and length: two cells
 pub record Stretch : Type 0 where
   pub result : ℕ
   pub start : ℕ
@@ -51,12 +56,12 @@ pub record Stretch : Type 0 where
 abbrev pub answered : ℕ → ℕ → ℕ → Stretch
 answered r s n = record { result = r; start = s; size = n }
 
-unfoldable pub stretchBy : List ℕ → ℕ → ℕ → Stretch
-stretchBy bs k zero = answered 0 (start (headIn bs) k) (length (sectionCall bs k .stretch))
-stretchBy bs k (suc n) = answered (suc n) 0 0
+unfoldable pub stretchBy : List ℕ → ℕ → ℕ → ℕ → ℕ → Stretch
+stretchBy bs k s n zero = answered 0 (start (headIn bs) k) (length (sectionCall bs k .stretch))
+stretchBy bs k s n (suc r) = answered (suc r) s n
 
-unfoldable pub sectionAnswer : List ℕ → ℕ → Stretch
-sectionAnswer bs k = stretchBy bs k (sectionCall bs k .cell)
+unfoldable pub sectionAnswer : List ℕ → ℕ → ℕ → ℕ → Stretch
+sectionAnswer bs k s n = stretchBy bs k s n (sectionCall bs k .cell)
 
 -- reading
 pub record Loads : Type 0 where
@@ -72,9 +77,9 @@ readBy (loaded.No r) l t = loadedAs (number r) l t
 readBy (loaded.Is h) l t = loadedAs 0 (stored 0 (headNumbers h) l) t
 
 unfoldable pub readAnswer : List ℕ → List ℕ → Tables → Loads
-readAnswer bs l t = cond (ltb (length l) 7) (loadedAs 13 l t) (readBy (readCall bs t .answer) l (readCall bs t .tables))
+readAnswer bs l t = cond (ltb (length l) headLength) (loadedAs 13 l t) (readBy (readCall bs t .answer) l (readCall bs t .tables))
 
--- writing
+-- writing, with a cell for the length
 pub record Writes : Type 0 where
   pub result : ℕ
   pub buffer : List ℕ
@@ -83,12 +88,14 @@ pub record Writes : Type 0 where
 abbrev pub writtenAs : ℕ → List ℕ → ℕ → Writes
 writtenAs r b n = record { result = r; buffer = b; size = n }
 
-unfoldable pub writeBy : Stored → List ℕ → Writes
-writeBy (written.No r) b = writtenAs (number r) b 0
-writeBy (written.Bytes n) b = writtenAs 0 b n
+unfoldable pub writeBy : Stored → List ℕ → ℕ → Writes
+writeBy (written.No r) b n = writtenAs (number r) b n
+writeBy (written.Bytes n) b old = writtenAs 0 b n
 
-unfoldable pub writeAnswer : List ℕ → Tables → List ℕ → Writes
-writeAnswer l t b = cond (ltb (length l) 7) (writtenAs 13 b 0) (writeBy (writeCall (headFrom l) t b .answer) (writeCall (headFrom l) t b .buffer))
+unfoldable pub writeAnswer : List ℕ → Tables → List ℕ → ℕ → Writes
+writeAnswer l t b n =
+    let c = writeCall (headFrom l) t b in
+    cond (ltb (length l) headLength) (writtenAs 13 b n) (writeBy (c .answer) (c .buffer) n)
 
 -- ---- the requests
 
@@ -96,7 +103,7 @@ writeAnswer l t b = cond (ltb (length l) 7) (writtenAs 13 b 0) (writeBy (writeCa
 unfoldable pub resultOf : Refusal → ℕ
 resultOf r = number r + 256 * viewTold r
 
--- a change in numbers: the result, the head's numbers and the count of order rows
+-- a change in numbers: the result, the head's numbers, and the cell for the count of order rows
 pub record Told : Type 0 where
   pub result : ℕ
   pub head : List ℕ
@@ -105,9 +112,9 @@ pub record Told : Type 0 where
 abbrev pub toldAs : ℕ → List ℕ → ℕ → Told
 toldAs r l n = record { result = r; head = l; count = n }
 
-unfoldable pub changeTold : Changed → List ℕ → Told
-changeTold (changed.No r) l = toldAs (resultOf r) l 0
-changeTold (changed.Done h n) l = toldAs 0 (stored 0 (headNumbers h) l) n
+unfoldable pub changeTold : Changed → List ℕ → ℕ → Told
+changeTold (changed.No r) l n = toldAs (resultOf r) l n
+changeTold (changed.Done h n) l old = toldAs 0 (stored 0 (headNumbers h) l) n
 
 pub record Changes : Type 0 where
   pub told : Told
@@ -117,13 +124,13 @@ pub record Changes : Type 0 where
 abbrev pub changedAs : ℕ → List ℕ → Tables → List ℕ → ℕ → Changes
 changedAs r l t list n = record { told = toldAs r l n; tables = t; orders = list }
 
-unfoldable pub changeBy : Change → List ℕ → Changes
-changeBy c l = record { told = changeTold (c .answer) l; tables = c .tables; orders = c .orders }
+unfoldable pub changeBy : Change → List ℕ → ℕ → Changes
+changeBy c l n = record { told = changeTold (c .answer) l n; tables = c .tables; orders = c .orders }
 
-unfoldable pub changeAnswer : Request → List ℕ → Tables → List ℕ → Changes
-changeAnswer q l t list = cond (ltb (length l) 7) (changedAs 13 l t list 0) (changeBy (change q (headFrom l) t list) l)
+unfoldable pub changeAnswer : Request → List ℕ → Tables → List ℕ → ℕ → Changes
+changeAnswer q l t list n = cond (ltb (length l) headLength) (changedAs 13 l t list n) (changeBy (change q (headFrom l) t list) l n)
 
--- a view
+-- a view, in a cell
 pub record Views : Type 0 where
   pub result : ℕ
   pub view : ℕ
@@ -131,14 +138,14 @@ pub record Views : Type 0 where
 abbrev pub viewedAs : ℕ → ℕ → Views
 viewedAs r v = record { result = r; view = v }
 
-unfoldable pub viewAs : Viewed → Views
-viewAs (viewed.No r) = viewedAs (resultOf r) 0
-viewAs (viewed.Is v) = viewedAs 0 (viewNumber v)
+unfoldable pub viewAs : Viewed → ℕ → Views
+viewAs (viewed.No r) n = viewedAs (resultOf r) n
+viewAs (viewed.Is v) n = viewedAs 0 (viewNumber v)
 
-unfoldable pub viewAnswer : ℕ → ℕ → List ℕ → Tables → Views
-viewAnswer u r l t = cond (ltb (length l) 7) (viewedAs 13 0) (viewAs (viewCall u r (headFrom l) t))
+unfoldable pub viewAnswer : ℕ → ℕ → List ℕ → Tables → ℕ → Views
+viewAnswer u r l t n = cond (ltb (length l) headLength) (viewedAs 13 n) (viewAs (viewCall u r (headFrom l) t) n)
 
--- an open: the chains' rows in the list, and how many each has
+-- an open: the chains' rows in the list, and two cells for how many each has
 pub record Opens : Type 0 where
   pub result : ℕ
   pub list : List ℕ
@@ -148,19 +155,19 @@ pub record Opens : Type 0 where
 abbrev pub openedAs : ℕ → List ℕ → ℕ → ℕ → Opens
 openedAs r list i o = record { result = r; list = list; inner = i; outer = o }
 
-unfoldable pub openBy : Opened → List ℕ → Opens
-openBy (opened.No r) list = openedAs (resultOf r) list 0 0
-openBy (opened.Chains i o) list = openedAs 0 list i o
+unfoldable pub openBy : Opened → List ℕ → ℕ → ℕ → Opens
+openBy (opened.No r) list i o = openedAs (resultOf r) list i o
+openBy (opened.Chains i o) list m n = openedAs 0 list i o
 
-unfoldable pub openAnswer : ℕ → ℕ → List ℕ → Tables → List ℕ → Opens
-openAnswer u r l t list =
+unfoldable pub openAnswer : ℕ → ℕ → List ℕ → Tables → List ℕ → ℕ → ℕ → Opens
+openAnswer u r l t list i o =
     let c = openCall u r (headFrom l) t list in
-    cond (ltb (length l) 7) (openedAs 13 list 0 0) (openBy (c .answer) (c .list))
+    cond (ltb (length l) headLength) (openedAs 13 list i o) (openBy (c .answer) (c .list) i o)
 
--- several requests: how many order rows all of them used
-unfoldable pub serveTold : Served → List ℕ → Told
-serveTold (served.No r) l = toldAs (resultOf r) l 0
-serveTold (served.Done h n) l = toldAs 0 (stored 0 (headNumbers h) l) n
+-- several requests, with a cell for how many order rows all of them used
+unfoldable pub serveTold : Served → List ℕ → ℕ → Told
+serveTold (served.No r) l n = toldAs (resultOf r) l n
+serveTold (served.Done h n) l old = toldAs 0 (stored 0 (headNumbers h) l) n
 
 pub record Serves : Type 0 where
   pub told : Told
@@ -171,9 +178,9 @@ pub record Serves : Type 0 where
 abbrev pub servedAs : ℕ → List ℕ → Tables → List ℕ → List ℕ → ℕ → Serves
 servedAs r l t answers list n = record { told = toldAs r l n; tables = t; answers = answers; orders = list }
 
-unfoldable pub serveBy : Service → List ℕ → Serves
-serveBy c l = record { told = serveTold (c .answer) l; tables = c .tables; answers = c .answers; orders = c .orders }
+unfoldable pub serveBy : Service → List ℕ → ℕ → Serves
+serveBy c l n = record { told = serveTold (c .answer) l n; tables = c .tables; answers = c .answers; orders = c .orders }
 
-unfoldable pub serveAnswer : List ℕ → List ℕ → Tables → List ℕ → List ℕ → Serves
-serveAnswer requests l t answers list =
-    cond (ltb (length l) 7) (servedAs 13 l t answers list 0) (serveBy (serveCall requests (headFrom l) t answers list) l)
+unfoldable pub serveAnswer : List ℕ → List ℕ → Tables → List ℕ → List ℕ → ℕ → Serves
+serveAnswer requests l t answers list n =
+    cond (ltb (length l) headLength) (servedAs 13 l t answers list n) (serveBy (serveCall requests (headFrom l) t answers list) l n)

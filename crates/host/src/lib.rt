@@ -1,4 +1,5 @@
-// The C interface (include/fenstubble.h): thin functions over numbers and slices. A head is 7 numbers; the result is 0 or the refusal's number.
+// The C interface (include/fenstubble.h): thin functions over numbers and slices. The result is 0 or the refusal's number, and a refusal leaves every
+// cell as it was.
 // The five tables are iv, it, ov, ot, rs: inner vertices and tokens, outer vertices and tokens, resources.
 pub mod requests;
 
@@ -20,20 +21,23 @@ ghost use Prim.Native.Nat.{_≤_};
 ghost use lib.ListN.{length};
 ghost use Rattle.rows.specs.Number.{stored};
 ghost use Rattle.rules.specs.Bytes.{tables};
-ghost use Rattle.host.specs.Answers.{headFrom, headNumbers, checkAnswer, sectionAnswer, readAnswer, writeAnswer, answered, loadedAs, writtenAs};
+ghost use Rattle.host.specs.Answers.{headLength, headFrom, headNumbers, checkAnswer, sectionAnswer, readAnswer, writeAnswer, answered, loadedAs, writtenAs};
 
-// The head that 7 numbers give.
+// The numbers of a head.
+pub const HEAD: usize = 7;
+
+// The head that its numbers give.
 pub fn head_of(head: &[u16]) -> Head
-    requires { ⌜ 7 ≤ length (now head) ⌝ }
+    requires { ⌜ headLength ≤ length (now head) ⌝ }
     ensures { λ r. ⌜ r ≡ headFrom (now (head .entry)) ⌝ }
 {
     let mode = Mode(head[0]);
-    let users = Joined(head[1]);
-    let resources = Resources(head[2]);
-    let inner_vertices = InnerVertices(head[3]);
-    let inner_tokens = InnerTokens(head[4]);
-    let outer_vertices = OuterVertices(head[5]);
-    let outer_tokens = OuterTokens(head[6]);
+    let users = Joined::new(head[1]);
+    let resources = Resources::new(head[2]);
+    let inner_vertices = InnerVertices::new(head[3]);
+    let inner_tokens = InnerTokens::new(head[4]);
+    let outer_vertices = OuterVertices::new(head[5]);
+    let outer_tokens = OuterTokens::new(head[6]);
     Head {
         mode,
         users,
@@ -45,9 +49,9 @@ pub fn head_of(head: &[u16]) -> Head
     }
 }
 
-// A head into 7 numbers.
+// A head into its numbers.
 pub fn put_head(head: &mut [u16], h: Head)
-    requires { ⌜ 7 ≤ length (now head) ⌝ }
+    requires { ⌜ headLength ≤ length (now head) ⌝ }
     ensures { λ _. ⌜ now (head .exit) ≡ stored 0 (headNumbers h) (now (head .entry)) ⌝ }
 {
     head[0] = h.mode.0;
@@ -70,7 +74,7 @@ pub extern "C" fn fenstubble_check(
 ) -> u16
     ensures { λ r. ⌜ r ≡ checkAnswer (now (head .entry)) (tables (now (iv .entry)) (now (it .entry)) (now (ov .entry)) (now (ot .entry)) (now (rs .entry))) ⌝ }
 {
-    if head.len() < 7 {
+    if head.len() < HEAD {
         return 13;
     }
     let k = check(head_of(head), iv, it, ov, ot, rs);
@@ -87,17 +91,16 @@ pub extern "C" fn fenstubble_section(
     start: &mut usize,
     size: &mut usize,
 ) -> u16
-    ensures { λ r. ⌜ answered r (now (start .exit)) (now (size .exit)) ≡ sectionAnswer (now (bytes .entry)) k ⌝ }
+    ensures { λ r. ⌜ answered r (now (start .exit)) (now (size .exit)) ≡ sectionAnswer (now (bytes .entry)) k (now (start .entry)) (now (size .entry)) ⌝ }
 {
     let mut cell: u16 = 0;
     let n = book::section(bytes, k, &mut cell).len();
-    *size = n;
-    if cell == 0 {
-        *start = book::start_of(book::head_in(bytes), k);
-    } else {
-        *start = 0;
+    if cell != 0 {
+        return cell;
     }
-    cell
+    *start = book::start_of(book::head_in(bytes), k);
+    *size = n;
+    0
 }
 
 #[no_mangle]
@@ -112,7 +115,7 @@ pub extern "C" fn fenstubble_read(
 ) -> u16
     ensures { λ r. ⌜ loadedAs r (now (head .exit)) (tables (now (iv .exit)) (now (it .exit)) (now (ov .exit)) (now (ot .exit)) (now (rs .exit))) ≡ readAnswer (now (bytes .entry)) (now (head .entry)) (tables (now (iv .entry)) (now (it .entry)) (now (ov .entry)) (now (ot .entry)) (now (rs .entry))) ⌝ }
 {
-    if head.len() < 7 {
+    if head.len() < HEAD {
         return 13;
     }
     let a = book::read(bytes, iv, it, ov, ot, rs);
@@ -136,10 +139,9 @@ pub extern "C" fn fenstubble_write(
     buffer: &mut [u8],
     size: &mut usize,
 ) -> u16
-    ensures { λ r. ⌜ writtenAs r (now (buffer .exit)) (now (size .exit)) ≡ writeAnswer (now (head .entry)) (tables (now (iv .entry)) (now (it .entry)) (now (ov .entry)) (now (ot .entry)) (now (rs .entry))) (now (buffer .entry)) ⌝ }
+    ensures { λ r. ⌜ writtenAs r (now (buffer .exit)) (now (size .exit)) ≡ writeAnswer (now (head .entry)) (tables (now (iv .entry)) (now (it .entry)) (now (ov .entry)) (now (ot .entry)) (now (rs .entry))) (now (buffer .entry)) (now (size .entry)) ⌝ }
 {
-    *size = 0;
-    if head.len() < 7 {
+    if head.len() < HEAD {
         return 13;
     }
     let a = book::write(head_of(head), iv, it, ov, ot, rs, buffer);

@@ -1,5 +1,7 @@
-// The requests of the C interface, view and open. The result is 0 or the refusal's number; 11 comes as 11 + 256 * view.
+// The requests of the C interface, view and open. The result is 0 or the refusal's number; 11 comes as 11 + 256 * view. A refusal leaves every
+// cell as it was.
 // The five tables are iv, it, ov, ot, rs: inner vertices and tokens, outer vertices and tokens, resources. Order rows are three numbers each.
+use crate::HEAD;
 use crate::head_of;
 use crate::put_head;
 use plan::Request;
@@ -24,7 +26,7 @@ ghost use lib.ListN.{length};
 ghost use Rattle.rules.specs.Bytes.{tables};
 ghost use Rattle.rules.specs.Refusals.{joins, inserts, grants, revokes};
 ghost use Rattle.plan.specs.Judge.{requestOf};
-ghost use Rattle.host.specs.Answers.{resultOf, toldAs, changeTold, changedAs, changeAnswer, viewedAs, viewAnswer, openedAs, openAnswer, serveTold, servedAs, serveAnswer};
+ghost use Rattle.host.specs.Answers.{headLength, resultOf, toldAs, changeTold, changedAs, changeAnswer, viewedAs, viewAnswer, openedAs, openAnswer, serveTold, servedAs, serveAnswer};
 
 // The number of a refusal; with 11 also the view.
 fn result_of(n: Refusal) -> u16
@@ -35,14 +37,11 @@ fn result_of(n: Refusal) -> u16
 
 // What a change answers, in numbers.
 fn told(c: Changed, head: &mut [u16], count: &mut u16) -> u16
-    requires { ⌜ 7 ≤ length (now head) ⌝ }
-    ensures { λ r. ⌜ toldAs r (now (head .exit)) (now (count .exit)) ≡ changeTold c (now (head .entry)) ⌝ }
+    requires { ⌜ headLength ≤ length (now head) ⌝ }
+    ensures { λ r. ⌜ toldAs r (now (head .exit)) (now (count .exit)) ≡ changeTold c (now (head .entry)) (now (count .entry)) ⌝ }
 {
     match c {
-        Changed::No(n) => {
-            *count = 0;
-            result_of(n)
-        }
+        Changed::No(n) => result_of(n),
         Changed::Done(h, n) => {
             put_head(head, h);
             *count = n;
@@ -63,10 +62,9 @@ fn changed(
     count: &mut u16,
     q: Request,
 ) -> u16
-    ensures { λ k. ⌜ changedAs k (now (head .exit)) (tables (now (iv .exit)) (now (it .exit)) (now (ov .exit)) (now (ot .exit)) (now (rs .exit))) (now (orders .exit)) (now (count .exit)) ≡ changeAnswer (requestOf q) (now (head .entry)) (tables (now (iv .entry)) (now (it .entry)) (now (ov .entry)) (now (ot .entry)) (now (rs .entry))) (now (orders .entry)) ⌝ }
+    ensures { λ k. ⌜ changedAs k (now (head .exit)) (tables (now (iv .exit)) (now (it .exit)) (now (ov .exit)) (now (ot .exit)) (now (rs .exit))) (now (orders .exit)) (now (count .exit)) ≡ changeAnswer (requestOf q) (now (head .entry)) (tables (now (iv .entry)) (now (it .entry)) (now (ov .entry)) (now (ot .entry)) (now (rs .entry))) (now (orders .entry)) (now (count .entry)) ⌝ }
 {
-    if head.len() < 7 {
-        *count = 0;
+    if head.len() < HEAD {
         return 13;
     }
     let c = change(head_of(head), iv, it, ov, ot, rs, orders, q);
@@ -84,7 +82,7 @@ pub extern "C" fn fenstubble_join(
     orders: &mut [u16],
     count: &mut u16,
 ) -> u16
-    ensures { λ k. ⌜ changedAs k (now (head .exit)) (tables (now (iv .exit)) (now (it .exit)) (now (ov .exit)) (now (ot .exit)) (now (rs .exit))) (now (orders .exit)) (now (count .exit)) ≡ changeAnswer joins (now (head .entry)) (tables (now (iv .entry)) (now (it .entry)) (now (ov .entry)) (now (ot .entry)) (now (rs .entry))) (now (orders .entry)) ⌝ }
+    ensures { λ k. ⌜ changedAs k (now (head .exit)) (tables (now (iv .exit)) (now (it .exit)) (now (ov .exit)) (now (ot .exit)) (now (rs .exit))) (now (orders .exit)) (now (count .exit)) ≡ changeAnswer joins (now (head .entry)) (tables (now (iv .entry)) (now (it .entry)) (now (ov .entry)) (now (ot .entry)) (now (rs .entry))) (now (orders .entry)) (now (count .entry)) ⌝ }
 {
     changed(head, iv, it, ov, ot, rs, orders, count, Request::Join)
 }
@@ -101,7 +99,7 @@ pub extern "C" fn fenstubble_insert(
     count: &mut u16,
     l: u64,
 ) -> u16
-    ensures { λ k. ⌜ changedAs k (now (head .exit)) (tables (now (iv .exit)) (now (it .exit)) (now (ov .exit)) (now (ot .exit)) (now (rs .exit))) (now (orders .exit)) (now (count .exit)) ≡ changeAnswer (inserts l) (now (head .entry)) (tables (now (iv .entry)) (now (it .entry)) (now (ov .entry)) (now (ot .entry)) (now (rs .entry))) (now (orders .entry)) ⌝ }
+    ensures { λ k. ⌜ changedAs k (now (head .exit)) (tables (now (iv .exit)) (now (it .exit)) (now (ov .exit)) (now (ot .exit)) (now (rs .exit))) (now (orders .exit)) (now (count .exit)) ≡ changeAnswer (inserts l) (now (head .entry)) (tables (now (iv .entry)) (now (it .entry)) (now (ov .entry)) (now (ot .entry)) (now (rs .entry))) (now (orders .entry)) (now (count .entry)) ⌝ }
 {
     changed(
         head,
@@ -129,7 +127,7 @@ pub extern "C" fn fenstubble_grant(
     r: u16,
     u: u16,
 ) -> u16
-    ensures { λ k. ⌜ changedAs k (now (head .exit)) (tables (now (iv .exit)) (now (it .exit)) (now (ov .exit)) (now (ot .exit)) (now (rs .exit))) (now (orders .exit)) (now (count .exit)) ≡ changeAnswer (grants r u) (now (head .entry)) (tables (now (iv .entry)) (now (it .entry)) (now (ov .entry)) (now (ot .entry)) (now (rs .entry))) (now (orders .entry)) ⌝ }
+    ensures { λ k. ⌜ changedAs k (now (head .exit)) (tables (now (iv .exit)) (now (it .exit)) (now (ov .exit)) (now (ot .exit)) (now (rs .exit))) (now (orders .exit)) (now (count .exit)) ≡ changeAnswer (grants r u) (now (head .entry)) (tables (now (iv .entry)) (now (it .entry)) (now (ov .entry)) (now (ot .entry)) (now (rs .entry))) (now (orders .entry)) (now (count .entry)) ⌝ }
 {
     changed(
         head,
@@ -157,7 +155,7 @@ pub extern "C" fn fenstubble_revoke(
     r: u16,
     u: u16,
 ) -> u16
-    ensures { λ k. ⌜ changedAs k (now (head .exit)) (tables (now (iv .exit)) (now (it .exit)) (now (ov .exit)) (now (ot .exit)) (now (rs .exit))) (now (orders .exit)) (now (count .exit)) ≡ changeAnswer (revokes r u) (now (head .entry)) (tables (now (iv .entry)) (now (it .entry)) (now (ov .entry)) (now (ot .entry)) (now (rs .entry))) (now (orders .entry)) ⌝ }
+    ensures { λ k. ⌜ changedAs k (now (head .exit)) (tables (now (iv .exit)) (now (it .exit)) (now (ov .exit)) (now (ot .exit)) (now (rs .exit))) (now (orders .exit)) (now (count .exit)) ≡ changeAnswer (revokes r u) (now (head .entry)) (tables (now (iv .entry)) (now (it .entry)) (now (ov .entry)) (now (ot .entry)) (now (rs .entry))) (now (orders .entry)) (now (count .entry)) ⌝ }
 {
     changed(
         head,
@@ -184,10 +182,9 @@ pub extern "C" fn fenstubble_view(
     r: u16,
     cell: &mut u16,
 ) -> u16
-    ensures { λ k. ⌜ viewedAs k (now (cell .exit)) ≡ viewAnswer u r (now (head .entry)) (tables (now (iv .entry)) (now (it .entry)) (now (ov .entry)) (now (ot .entry)) (now (rs .entry))) ⌝ }
+    ensures { λ k. ⌜ viewedAs k (now (cell .exit)) ≡ viewAnswer u r (now (head .entry)) (tables (now (iv .entry)) (now (it .entry)) (now (ov .entry)) (now (ot .entry)) (now (rs .entry))) (now (cell .entry)) ⌝ }
 {
-    *cell = 0;
-    if head.len() < 7 {
+    if head.len() < HEAD {
         return 13;
     }
     let w = view(head_of(head), iv, it, ov, ot, rs, User(u), Resource(r));
@@ -214,11 +211,9 @@ pub extern "C" fn fenstubble_open(
     inner: &mut u16,
     outer: &mut u16,
 ) -> u16
-    ensures { λ k. ⌜ openedAs k (now (list .exit)) (now (inner .exit)) (now (outer .exit)) ≡ openAnswer u r (now (head .entry)) (tables (now (iv .entry)) (now (it .entry)) (now (ov .entry)) (now (ot .entry)) (now (rs .entry))) (now (list .entry)) ⌝ }
+    ensures { λ k. ⌜ openedAs k (now (list .exit)) (now (inner .exit)) (now (outer .exit)) ≡ openAnswer u r (now (head .entry)) (tables (now (iv .entry)) (now (it .entry)) (now (ov .entry)) (now (ot .entry)) (now (rs .entry))) (now (list .entry)) (now (inner .entry)) (now (outer .entry)) ⌝ }
 {
-    *inner = 0;
-    *outer = 0;
-    if head.len() < 7 {
+    if head.len() < HEAD {
         return 13;
     }
     let w = open(
@@ -244,14 +239,11 @@ pub extern "C" fn fenstubble_open(
 
 // What serving several requests answers, in numbers.
 fn told_all(s: Served, head: &mut [u16], used: &mut usize) -> u16
-    requires { ⌜ 7 ≤ length (now head) ⌝ }
-    ensures { λ r. ⌜ toldAs r (now (head .exit)) (now (used .exit)) ≡ serveTold s (now (head .entry)) ⌝ }
+    requires { ⌜ headLength ≤ length (now head) ⌝ }
+    ensures { λ r. ⌜ toldAs r (now (head .exit)) (now (used .exit)) ≡ serveTold s (now (head .entry)) (now (used .entry)) ⌝ }
 {
     match s {
-        Served::No(n) => {
-            *used = 0;
-            result_of(n)
-        }
+        Served::No(n) => result_of(n),
         Served::Done(h, n) => {
             put_head(head, h);
             *used = n;
@@ -273,10 +265,9 @@ pub extern "C" fn fenstubble_serve(
     orders: &mut [u16],
     used: &mut usize,
 ) -> u16
-    ensures { λ k. ⌜ servedAs k (now (head .exit)) (tables (now (iv .exit)) (now (it .exit)) (now (ov .exit)) (now (ot .exit)) (now (rs .exit))) (now (answers .exit)) (now (orders .exit)) (now (used .exit)) ≡ serveAnswer (now (requests .entry)) (now (head .entry)) (tables (now (iv .entry)) (now (it .entry)) (now (ov .entry)) (now (ot .entry)) (now (rs .entry))) (now (answers .entry)) (now (orders .entry)) ⌝ }
+    ensures { λ k. ⌜ servedAs k (now (head .exit)) (tables (now (iv .exit)) (now (it .exit)) (now (ov .exit)) (now (ot .exit)) (now (rs .exit))) (now (answers .exit)) (now (orders .exit)) (now (used .exit)) ≡ serveAnswer (now (requests .entry)) (now (head .entry)) (tables (now (iv .entry)) (now (it .entry)) (now (ov .entry)) (now (ot .entry)) (now (rs .entry))) (now (answers .entry)) (now (orders .entry)) (now (used .entry)) ⌝ }
 {
-    if head.len() < 7 {
-        *used = 0;
+    if head.len() < HEAD {
         return 13;
     }
     let s = serve(head_of(head), iv, it, ov, ot, rs, requests, answers, orders);

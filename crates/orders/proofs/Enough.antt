@@ -1,4 +1,4 @@
--- 385 rows are enough for any request, so that the request on numbers answers for the records. Assumes nothing.
+-- `mostOrders` rows are enough for any request, so that the request on numbers answers for the records. Assumes nothing.
 use Prim.Native.Nat.{ℕ, _+_, _*_, _≤_}
 use mathlib.Core.Path.{_≡_, refl, sym, ap, _∙_}
 use mathlib.Core.Bool.{Bool, true, false, cond}
@@ -22,29 +22,29 @@ use Rattle.rules.specs.declared.Changed.{Changed}
 use Rattle.theorems.proofs.RequestLaws.{common-none, verdict-append, limits-none}
 use Rattle.theorems.proofs.OrderLaws.{mostRows, rows-enough}
 use Rattle.theorems.proofs.ServeLaws.{length-orders}
-use Rattle.orders.specs.Records.{over, least, ordersIn, filled, countOf, recording, recordsBy, recordedBy, recorded}
+use Rattle.orders.specs.Records.{over, mostOrders, mostNumbers, least, ordersIn, filled, countOf, recording, recordsBy, recordedBy, recorded}
 use Rattle.orders.proofs.Records.{over-none, orders-back}
 
 -- ---- 10 on `room` rows is 10 on as many of them as can be needed
 
-pub least-fits : (room : ℕ) → (least room ≤ room) × (least room ≤ 385)
+pub least-fits : (room : ℕ) → (least room ≤ room) × (least room ≤ mostOrders)
 unfolding least
-least-fits room = go (ltb room 385) refl
+least-fits room = go (ltb room mostOrders) refl
   where
-    go : (z : Bool) → ltb room 385 ≡ z → (cond z room 385 ≤ room) × (cond z room 385 ≤ 385)
-    go true e = (omega arith, omega (arith, ltb-true room 385 e))
-    go false e = (omega (arith, ltb-false room 385 e), omega arith)
+    go : (z : Bool) → ltb room mostOrders ≡ z → (cond z room mostOrders ≤ room) × (cond z room mostOrders ≤ mostOrders)
+    go true e = (omega arith, omega (arith, ltb-true room mostOrders e))
+    go false e = (omega (arith, ltb-false room mostOrders e), omega arith)
 
-pub least-few : {n : ℕ} (room : ℕ) → n ≡ least room → n ≤ 385
+pub least-few : {n : ℕ} (room : ℕ) → n ≡ least room → n ≤ mostOrders
 least-few {n} room e = omega (arith, e, least-fits room .1)
 
-short-same : (room n : ℕ) → n ≤ 385 → ltb room n ≡ ltb (least room) n
+short-same : (room n : ℕ) → n ≤ mostOrders → ltb room n ≡ ltb (least room) n
 unfolding least
-short-same room n h = go (ltb room 385) refl
+short-same room n h = go (ltb room mostOrders) refl
   where
-    go : (z : Bool) → ltb room 385 ≡ z → ltb room n ≡ ltb (cond z room 385) n
+    go : (z : Bool) → ltb room mostOrders ≡ z → ltb room n ≡ ltb (cond z room mostOrders) n
     go true e = refl
-    go false e = le-ltb room n (omega (arith, ltb-false room 385 e)) ∙ sym (le-ltb 385 n h)
+    go false e = le-ltb room n (omega (arith, ltb-false room mostOrders e)) ∙ sym (le-ltb mostOrders n h)
 
 abbrev Rows : Type 0
 Rows = List (Refusal × Bool)
@@ -60,7 +60,7 @@ verdict-behind (x ∷ xs) ys zs h = go (x .1) (λ r. verdict-behind xs ys zs r) 
     go true more k = refl
     go false more k = more k
 
-few : (q : Request) → mostRows q ≤ 385
+few : (q : Request) → mostRows q ≤ mostOrders
 few joins = omega arith
 few (inserts l) = omega arith
 few (grants r u) = omega arith
@@ -87,8 +87,8 @@ filled-few q h t room rows = go (refusal t (bookIn h t) room q) refl
     go (some r) e = omega arith
     go none e = given-few t (bookIn h t) (least room) q (sym (room-enough t (bookIn h t) room q) ∙ e)
 
--- the rows that were given stand in 1155 numbers, and there is a record for each
-pub filled-counts : (q : Request) (h : Head) (t : Tables) (room : ℕ) (rows : List ℕ) {c : Changed} {u : Tables} {ys : List ℕ} {n : ℕ} → changing c u ys ≡ filled q h t room rows → n ≡ countOf c → length ys ≡ 1155
+-- the rows that were given stand in the numbers, and there is a record for each
+pub filled-counts : (q : Request) (h : Head) (t : Tables) (room : ℕ) (rows : List ℕ) {c : Changed} {u : Tables} {ys : List ℕ} {n : ℕ} → changing c u ys ≡ filled q h t room rows → n ≡ countOf c → length ys ≡ mostNumbers
     → (n * 3 ≤ length ys) × (n ≤ room)
 filled-counts q h t room rows {n = n} e k l =
     let few : n ≤ least room = rw (k ∙ ap (λ (z : Change). countOf (z .answer)) e) (filled-few q h t room rows) in
@@ -116,7 +116,7 @@ module _ (v : Option Refusal) (d : Done) (t : Tables) (m : ℕ) (rows : List ℕ
       go (some r) f = ap (changing _ t) (take-append-drop m rows)
       go none f = ap (changing _ _) (behind m (orderRows (d .orders)) rows (f refl) l)
 
-pub filled-by : (q : Request) (h : Head) (t : Tables) (room : ℕ) (rows : List ℕ) {n : ℕ} {c : Changed} {u : Tables} {ys : List ℕ} → 1155 ≤ length rows → n ≡ least room → changing c u ys ≡ change q h t (take (n * 3) rows)
+pub filled-by : (q : Request) (h : Head) (t : Tables) (room : ℕ) (rows : List ℕ) {n : ℕ} {c : Changed} {u : Tables} {ys : List ℕ} → mostNumbers ≤ length rows → n ≡ least room → changing c u ys ≡ change q h t (take (n * 3) rows)
     → changing c u (ys ++ drop (n * 3) rows) ≡ filled q h t room rows
 unfolding filled change
 filled-by q h t room rows {n} l k e =

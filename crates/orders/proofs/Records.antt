@@ -11,7 +11,7 @@ use Rattle.rows.specs.Number.{stored, rowsOf}
 use Rattle.rows.proofs.Table.{length-rows, row-at, rows-front, rows-laid}
 use Rattle.rules.specs.Calls.{orderRow, orderRows}
 use Rattle.rules.specs.declared.Order.{Order}
-use Rattle.orders.specs.Records.{over, orderAt, orderOf, ordersIn}
+use Rattle.orders.specs.Records.{over, orderAt, orderOf, ordersIn, mostNumbers}
 
 abbrev zeroOrder : Order
 zeroOrder = record { kind = 0; a = 0; b = 0 }
@@ -70,12 +70,12 @@ orders-back os rows = rows-laid 3 orderRow orderOf os rows (λ x m. (row-wide x,
 -- ---- the numbers at first; shut, since they are many
 
 unfoldable pub zeros : List ℕ
-zeros = replicate 1155 0
+zeros = replicate mostNumbers 0
 
-pub zeros-are : replicate 1155 0 ≡ zeros
+pub zeros-are : replicate mostNumbers 0 ≡ zeros
 unfolding zeros
 zeros-are = refl
 
-pub zeros-length : length zeros ≡ 1155
+pub zeros-length : length zeros ≡ mostNumbers
 unfolding zeros
-zeros-length = length-replicate {A = ℕ} 1155 0
+zeros-length = length-replicate {A = ℕ} mostNumbers 0

@@ -1,2 +1,3 @@
 pub mod Records
 pub mod Examples
+pub mod Runs

@@ -56,9 +56,16 @@ orderOf row = orderAt row 0
 unfoldable pub ordersIn : ℕ → List ℕ → List Order
 ordersIn n rows = rowsOf 3 orderOf n rows
 
--- the rows that are needed where `room` are lent: no request gives more than 385
+-- the most orders that a request gives (`rows-enough`), and their numbers
+abbrev pub mostOrders : ℕ
+mostOrders = 385
+
+abbrev pub mostNumbers : ℕ
+mostNumbers = mostOrders * 3
+
+-- the rows that are needed where `room` are lent
 unfoldable pub least : ℕ → ℕ
-least room = cond (ltb room 385) room 385
+least room = cond (ltb room mostOrders) room mostOrders
 
 -- the request on `room` rows, its orders over these numbers
 unfoldable pub filled : Request → Head → Tables → ℕ → List ℕ → Change

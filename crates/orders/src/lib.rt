@@ -11,7 +11,7 @@ ghost use lib.ListN.{length, set};
 ghost use Rattle.rules.specs.Bytes.{tables};
 ghost use Rattle.rules.specs.Calls.{changing};
 ghost use Rattle.plan.specs.Judge.{requestOf};
-ghost use Rattle.orders.specs.Records.{orderAt, ordersIn, over, least, countOf, filled, recording, recorded};
+ghost use Rattle.orders.specs.Records.{orderAt, ordersIn, over, mostNumbers, least, countOf, filled, recording, recorded};
 
 // The most orders that a request gives (`rows-enough`).
 const MOST: usize = 385;
@@ -29,7 +29,7 @@ fn order_at(rows: &[u16], i: usize) -> Order
     requires { ⌜ i * 3 + 3 ≤ length (now rows) ⌝ }
     ensures { λ r. ⌜ r ≡ orderAt (now (rows .entry)) i ⌝ }
 {
-    let at = i * 3;
+    let at = i * Order::WIDTH;
     let kind = rows[at];
     let a = rows[at + 1];
     let b = rows[at + 2];
@@ -78,10 +78,10 @@ fn fill(
     rows: &mut [u16],
     room: usize,
 ) -> Changed
-    requires { ⌜ 1155 ≤ length (now rows) ⌝ }
+    requires { ⌜ mostNumbers ≤ length (now rows) ⌝ }
     ensures { λ c. ⌜ changing c (tables (now (iv .exit)) (now (it .exit)) (now (ov .exit)) (now (ot .exit)) (now (rs .exit))) (now (rows .exit)) ≡ filled (requestOf request) h (tables (now (iv .entry)) (now (it .entry)) (now (ov .entry)) (now (ot .entry)) (now (rs .entry))) room (now (rows .entry)) ⌝ }
 {
-    let end = rows_for(room) * 3;
+    let end = rows_for(room) * Order::WIDTH;
     policy::requests::change(h, iv, it, ov, ot, rs, &mut rows[..end], request)
 }
 
@@ -107,7 +107,7 @@ pub fn change(
 ) -> Changed
     ensures { λ c. ⌜ recording c (tables (now (iv .exit)) (now (it .exit)) (now (ov .exit)) (now (ot .exit)) (now (rs .exit))) (now (records .exit)) ≡ recorded (requestOf request) h (tables (now (iv .entry)) (now (it .entry)) (now (ov .entry)) (now (ot .entry)) (now (rs .entry))) (now (records .entry)) ⌝ }
 {
-    let mut rows = [0u16; MOST * 3];
+    let mut rows = [0u16; MOST * Order::WIDTH];
     let c = fill(h, iv, it, ov, ot, rs, request, &mut rows, records.len());
     let n = count_of(c);
     store_rows(records, &rows, n);

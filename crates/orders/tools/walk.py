@@ -6,7 +6,7 @@ import re
 
 TABLES = ['iv', 'it', 'ov', 'ot', 'rs']
 K = len(TABLES)
-N = 1155  # the numbers of the array
+N = 'mostNumbers'  # the numbers of the array
 LOCALS = 30
 # the locals of `rt mir orders`: 0 the result, 1 h, 2 to 6 the tables, 7 the request, 8 the records, 9 the array, 10 the answer, 11 the count,
 # 12 to 21 the tables lent on, 22 and 23 the array lent on, 24 the records' length, 25 nothing, 26 and 27 the records lent on, 28 and 29 the array again
@@ -135,12 +135,12 @@ def walk():
 
     c.do('-- the array')
     c.do('owned ! u16 (Is u16) (uint-makes 𝓤 H A W w16) 0 _ (refl, lit< tt) $')
-    c.do('use1 W (‵ (Rows .own (replicate %d 0) (none ∷ []))) (array-repeat 𝓤 H A W u16 (uint-copy 𝓤 H A W w16) %d 0 (vint w16 0)) $' % (N, N))
-    c.do('peeks ! Rows (Is Rows) (shows 𝓤 H A Rows) (replicate %d 0) (none ∷ []) (λ is₀.' % N, 1)
+    c.do('use1 W (‵ (Rows .own (replicate %s 0) (none ∷ []))) (array-repeat 𝓤 H A W u16 (uint-copy 𝓤 H A W w16) %s 0 (vint w16 0)) $' % (N, N))
+    c.do('peeks ! Rows (Is Rows) (shows 𝓤 H A Rows) (replicate %s 0) (none ∷ []) (λ is₀.' % N, 1)
     c.becomes(0, 'array')
-    assign('(rep ! %d (lit ! tt))' % N, ARRAY, '(array-lawful 𝓤 H A W u16 (uint-lawful 𝓤 H A W w16) %d .typed (replicate %d 0) (none ∷ []) is₀ .0)' % (N, N))
+    assign('(rep ! %s (lit ! tt))' % N, ARRAY, '(array-lawful 𝓤 H A W u16 (uint-lawful 𝓤 H A W w16) %s .typed (replicate %s 0) (none ∷ []) is₀ .0)' % (N, N))
     c.move(ARRAY, 'array')
-    c.do('use2 W (‵ (partAt Rows fullShare (replicate %d 0) l₉ 0)) (part-in 𝓤 H A W Rows refl fullShare (replicate %d 0) l₉ 0 none) $' % (N, N))
+    c.do('use2 W (‵ (partAt Rows fullShare (replicate %s 0) l₉ 0)) (part-in 𝓤 H A W Rows refl fullShare (replicate %s 0) l₉ 0 none) $' % (N, N))
     c.becomes(2, 'array')
     c.do('rewrite ! 0 (λ (ys : List ℕ). ‵ (partAt Rows fullShare ys l₉ 0)) zeros-are refl $')
     for k, t in enumerate(TABLES):
@@ -150,7 +150,7 @@ def walk():
 
     c.do('-- it is lent, for a lifetime ν of the call')
     c.move('array')
-    c.do('use1 W (‵ (arr-parts (shares u16) %d .part fullShare zeros l₉ 0)) (array-apart 𝓤 H A W u16 fullShare tt %d zeros l₉ 0) $ fsplit ! $ drop ! $' % (N, N))
+    c.do('use1 W (‵ (arr-parts (shares u16) %s .part fullShare zeros l₉ 0)) (array-apart 𝓤 H A W u16 fullShare tt %s zeros l₉ 0) $ fsplit ! $ drop ! $' % (N, N))
     c.do('use1 W (‵ (cells (inMem u16) zeros l₉ 0)) (whole-in 𝓤 H A W u16 zeros l₉ 0) $')
     c.do('lft-new ! tt (λ ν.', 1)
     c.becomes(0, 'ν')
@@ -186,7 +186,7 @@ def walk():
     c.split('last-x', 'lasts', 'fsplit')
     c.move('lasts')
     final('rows', 'lasts')
-    c.do('let len-r : length (rows zs) ≡ %d = len-rows ∙ zeros-length in' % N)
+    c.do('let len-r : length (rows zs) ≡ %s = len-rows ∙ zeros-length in' % N)
     c.move('result')
     c.split('tokens', 'answer')
     c.move('answer')
@@ -216,7 +216,7 @@ def walk():
     c.do('lft-end ! tt $')
     c.becomes(1, 'dead')
     c.move('dead', 'lent', last('rows'))
-    c.do('use3 W (later (‵ (Arr (inMem u16) %d .lies (rows zs) l₉ 0))) (slice-back 𝓤 H A W u16 (ν ∷ []) γ₁ (rows zs) %d l₉ 0) $ await ! tt $ fsplit ! $ drop ! $' % (N, N))
+    c.do('use3 W (later (‵ (Arr (inMem u16) %s .lies (rows zs) l₉ 0))) (slice-back 𝓤 H A W u16 (ν ∷ []) γ₁ (rows zs) %s l₉ 0) $ await ! tt $ fsplit ! $ drop ! $' % (N, N))
     c.becomes(3, 'array')
     c.do('use1 W (‵ (row u16 fullShare (rows zs) l₉ 0)) (whole-out 𝓤 H A W u16 (rows zs) l₉ 0) $ feqI ! ℕ (length (rows zs)) (length (rows zs)) refl $ fjoin ! $')
     lend_on(RECORDS, '_26', '_27', 'room-list .0')
@@ -262,8 +262,8 @@ def walk():
     c.do('lent-back ! tt $')
     c.becomes(2, 'array')
     c.do('rewrite ! 0 (λ (m : ℕ). ‵ (arr-parts (shares u16) m .part fullShare (rows zs) l₉ 0)) len-r refl $')
-    c.do('use1 W (‵ (partAt Rows fullShare (rows zs) l₉ 0)) (array-whole 𝓤 H A W u16 fullShare %d (rows zs) l₉ 0) $' % N)
-    c.do('use1 W (some (λ (v : Val). ‵ (fat fullShare (tyArray (tyInt w16) %d) l₉ 0 v) ⊛ ‵ (Rows .own (rows zs) (v ∷ [])))) (part-out 𝓤 H A W Rows refl fullShare (rows zs) l₉ 0) $ pick ! (λ v. split ! $' % N, 1)
+    c.do('use1 W (‵ (partAt Rows fullShare (rows zs) l₉ 0)) (array-whole 𝓤 H A W u16 fullShare %s (rows zs) l₉ 0) $' % N)
+    c.do('use1 W (some (λ (v : Val). ‵ (fat fullShare (tyArray (tyInt w16) %s) l₉ 0 v) ⊛ ‵ (Rows .own (rows zs) (v ∷ [])))) (part-out 𝓤 H A W Rows refl fullShare (rows zs) l₉ 0) $ pick ! (λ v. split ! $' % N, 1)
     c.becomes(1, ARRAY, 'array')
     c.move('array')
     c.do('drop ! $')

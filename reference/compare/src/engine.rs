@@ -43,9 +43,6 @@ mod c {
         fn fenstubble_revoke(head: *mut u16, head_len: usize; mut tables; orders: *mut u16, orders_len: usize, count: *mut u16, resource: u16, user: u16);
         fn fenstubble_view(head: *const u16, head_len: usize; const tables; user: u16, resource: u16, view: *mut u16);
         fn fenstubble_open(head: *const u16, head_len: usize; const tables; user: u16, resource: u16, list: *mut u16, list_len: usize, inner: *mut u16, outer: *mut u16);
-    }
-
-    declare! {
         fn fenstubble_serve(head: *mut u16, head_len: usize; mut tables; requests: *const u64, requests_len: usize, answers: *mut u16, answers_len: usize, orders: *mut u16, orders_len: usize, used: *mut usize);
     }
 
@@ -60,8 +57,9 @@ mod c {
     }
 }
 
-/// What stands in a cell before a call, so that one left alone is seen.
-const UNSET: u16 = 0xA7A7;
+/// What stands in a cell before a call, so that one left alone is seen: in an
+/// accepted call none is, in a refused one each.
+const LEFT: u16 = 0xA7A7;
 
 /// Makes a C call with head and tables in their place among the arguments,
 /// each as pointer and length.
@@ -94,8 +92,8 @@ impl Side for Engine {
         let (list, list_len) = (lent.list.as_mut_ptr(), lent.list.len());
         let (book, book_len) = (lent.book.as_mut_ptr(), lent.book.len());
         // The cells; a call has one or two of either width.
-        let (mut a, mut b) = (UNSET, UNSET);
-        let (mut start, mut length) = (usize::from(UNSET), usize::from(UNSET));
+        let (mut a, mut b) = (LEFT, LEFT);
+        let (mut start, mut length) = (usize::from(LEFT), usize::from(LEFT));
         let (cell, second) = (&raw mut a, &raw mut b);
         let code = match call {
             Call::Check => c!(fenstubble_check(; lent;)),
@@ -121,13 +119,13 @@ impl Side for Engine {
             }
         };
         match call {
-            Call::Check | Call::Read => answer(code, (), |()| Given::Nothing),
-            Call::Section(_) => answer(code, (start, length), |(a, b)| Given::Stretch(a, b)),
-            Call::Write => answer(code, length, Given::Length),
-            Call::View(..) => answer(code, a, Given::View),
-            Call::Open(..) => answer(code, (a, b), |(a, b)| Given::Chains(a, b)),
-            Call::Serve => answer(code, length, Given::Used),
-            _ => answer(code, a, Given::Orders),
+            Call::Check | Call::Read => answer(code, [0; 0], |[]| Given::Nothing),
+            Call::Section(_) => answer(code, [start, length], |[a, b]| Given::Stretch(a, b)),
+            Call::Write => answer(code, [length], |[n]| Given::Length(n)),
+            Call::View(..) => answer(code, [a], |[n]| Given::View(n)),
+            Call::Open(..) => answer(code, [a, b], |[a, b]| Given::Chains(a, b)),
+            Call::Serve => answer(code, [length], |[n]| Given::Used(n)),
+            _ => answer(code, [a], |[n]| Given::Orders(n)),
         }
     }
 }
@@ -147,15 +145,15 @@ fn refusal_of(code: u16) -> Option<Refusal> {
     }
 }
 
-/// An answer from the result and the cells, which are 0 where it is refused.
-fn answer<T: Debug + Default + PartialEq>(
+/// An answer from the result and the cells, which a refusal leaves alone.
+fn answer<T: Copy + Debug + From<u16> + PartialEq, const N: usize>(
     code: u16,
-    cells: T,
-    given: impl FnOnce(T) -> Given,
+    cells: [T; N],
+    given: impl FnOnce([T; N]) -> Given,
 ) -> Answer {
     match refusal_of(code) {
         _ if code == 0 => Ok(Ok(given(cells))),
-        Some(no) if cells == T::default() => Ok(Err(no)),
+        Some(no) if cells == [LEFT.into(); N] => Ok(Err(no)),
         _ => Err(Odd {
             code,
             cells: format!("{cells:?}"),
@@ -169,20 +167,24 @@ mod tests {
 
     #[test]
     fn results_and_cells_that_are_no_answer() {
-        let answer = |code, cell| answer(code, cell, Given::Orders);
+        let answer = |code, cell: u16| answer(code, [cell], |[n]| Given::Orders(n));
         assert_eq!(answer(0, 7), Ok(Ok(Given::Orders(7))));
-        assert_eq!(answer(12, 0), Ok(Err(Refusal::UNSOUND)));
+        assert_eq!(answer(12, LEFT), Ok(Err(Refusal::UNSOUND)));
         for (view, number) in [
             (View::SelLocked, 1),
             (View::BelLocked, 2),
             (View::Locked, 3),
         ] {
-            assert_eq!(answer(11 + 256 * number, 0), Ok(Err(Refusal::closed(view))));
+            assert_eq!(
+                answer(11 + 256 * number, LEFT),
+                Ok(Err(Refusal::closed(view)))
+            );
         }
         for code in [11, 14, 15, 256, 12 + 256, 11 + 4 * 256, 65535] {
-            assert!(answer(code, 0).is_err(), "{code}");
+            assert!(answer(code, LEFT).is_err(), "{code}");
         }
-        assert!(answer(12, 1).is_err());
-        assert!(answer(12, UNSET).is_err());
+        for cell in [0, 1, 12] {
+            assert!(answer(12, cell).is_err(), "{cell}");
+        }
     }
 }

@@ -19,8 +19,8 @@ pub enum Fault {
     None,
     /// Refused calls with tables change a byte of them.
     TableOnRefusal,
-    /// Refused calls leave a cell that is not 0.
-    CellOnRefusal,
+    /// A refused call of that name puts 0 into its cell of that number.
+    ZeroedCell(&'static str, usize),
     /// 12 stands before 13.
     WrongNumber,
     /// A section starts one byte late.
@@ -79,7 +79,7 @@ unsafe fn slice<'a, T>(start: *const T, length: usize) -> &'a mut [T] {
     from_raw_parts_mut(start.cast_mut(), length)
 }
 
-/// Makes the call on the model: the result and the cells.
+/// Makes the call on the model: the result, and the cells of an accepted one.
 fn reply(call: Call, lent: &mut Lending) -> (u16, [usize; 2]) {
     match Model::make(call, lent) {
         Ok(Ok(given)) => {
@@ -117,9 +117,16 @@ fn touched(code: u16, tables: &mut Tables) -> u16 {
     code
 }
 
-/// One in a cell, if the fault is planted and the call was refused.
-fn in_cell(code: u16) -> usize {
-    usize::from(code != 0 && planted(Fault::CellOnRefusal))
+/// Puts the numbers into the call's cells; a refusal leaves them alone, unless
+/// that is its fault.
+fn put<T: Default + TryFrom<usize>>(call: Call, code: u16, cells: &mut [(&mut T, usize)]) {
+    for (at, (cell, number)) in cells.iter_mut().enumerate() {
+        if code == 0 {
+            **cell = T::try_from(*number).unwrap_or_default();
+        } else if planted(Fault::ZeroedCell(call.name(), at)) {
+            **cell = T::default();
+        }
+    }
 }
 
 /// Nothing lent.
@@ -197,9 +204,14 @@ unsafe extern "C" fn fenstubble_section(
         book: slice(book, book_len),
         ..nothing()
     };
-    let (code, [from, count]) = reply(Call::Section(k), lent);
-    *start = from + usize::from(code == 0 && planted(Fault::LateSection));
-    *length = count + in_cell(code);
+    let call = Call::Section(k);
+    let (code, [from, count]) = reply(call, lent);
+    let from = from + usize::from(planted(Fault::LateSection));
+    put(
+        call,
+        code,
+        &mut [(&mut *start, from), (&mut *length, count)],
+    );
     code
 }
 
@@ -232,10 +244,8 @@ with_tables! {
     fn fenstubble_write(; const lent; buffer: *mut u8, buffer_len: usize, length: *mut usize) {
         lent.buffer = slice(buffer, buffer_len);
         let (code, [given, _]) = reply(Call::Write, lent);
-        *length = given + in_cell(code);
-        if code == 0 && planted(Fault::WrongLength) {
-            *length += 1;
-        }
+        let told = given + usize::from(planted(Fault::WrongLength));
+        put(Call::Write, code, &mut [(&mut *length, told)]);
         if code == 0 && planted(Fault::PastTheAnswer) {
             *lent.buffer.as_mut_ptr().add(given) = 0;
         }
@@ -246,10 +256,8 @@ with_tables! {
 /// A request that changes the book, and its faults.
 fn ordered(call: Call, lent: &mut Lending, count: &mut u16) -> u16 {
     let (code, [rows, _]) = reply(call, lent);
-    *count = (rows + in_cell(code)) as u16;
-    if code == 0 && planted(Fault::WrongCount) {
-        *count += 1;
-    }
+    let told = rows + usize::from(planted(Fault::WrongCount));
+    put(call, code, &mut [(count, told)]);
     if code == 0 && planted(Fault::PastTheRows) {
         if let Some(number) = lent.list.get_mut(rows * 3) {
             *number = 0;
@@ -297,11 +305,13 @@ with_tables! {
 
 with_tables! {
     fn fenstubble_view(; const lent; user: u16, resource: u16, view: *mut u16) {
-        let (code, [number, _]) = reply(Call::View(user, resource), lent);
-        *view = match number {
+        let call = Call::View(user, resource);
+        let (code, [number, _]) = reply(call, lent);
+        let number = match number {
             1 | 2 if planted(Fault::ViewsSwapped) => 3 - number,
-            _ => number + in_cell(code),
-        } as u16;
+            _ => number,
+        };
+        put(call, code, &mut [(&mut *view, number)]);
         code
     }
 }
@@ -309,10 +319,10 @@ with_tables! {
 with_tables! {
     fn fenstubble_open(; const lent; user: u16, resource: u16, list: *mut u16, list_len: usize, inner: *mut u16, outer: *mut u16) {
         lent.list = slice(list, list_len);
-        let (code, [a, b]) = reply(Call::Open(user, resource), lent);
+        let call = Call::Open(user, resource);
+        let (code, [a, b]) = reply(call, lent);
         let (a, b) = if planted(Fault::ChainsSwapped) { (b, a) } else { (a, b) };
-        *inner = (a + in_cell(code)) as u16;
-        *outer = b as u16;
+        put(call, code, &mut [(&mut *inner, a), (&mut *outer, b)]);
         code
     }
 }
@@ -324,10 +334,11 @@ with_tables! {
         lent.answers = slice(answers, answers_len);
         lent.list = slice(orders, orders_len);
         let (code, [rows, _]) = reply(Call::Serve, lent);
-        *used = rows + in_cell(code);
+        let mut told = rows;
         if code == 0 && planted(Fault::OpenUnused) {
-            *used -= lent.list.chunks_exact(3).take(rows).filter(|row| row[0] > 7).count();
+            told -= lent.list.chunks_exact(3).take(rows).filter(|row| row[0] > 7).count();
         }
+        put(Call::Serve, code, &mut [(&mut *used, told)]);
         code
     }
 }

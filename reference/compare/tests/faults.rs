@@ -32,11 +32,6 @@ fn faults_in_books() {
             "read",
             "it should have stayed as it was",
         ),
-        (
-            Fault::CellOnRefusal,
-            "section",
-            "result 12, which goes with no cells",
-        ),
         (Fault::WrongNumber, "read", "engine no 12, model no 13"),
         (
             Fault::LateSection,
@@ -66,6 +61,25 @@ fn faults_in_books() {
         assert!(report.call.starts_with(call), "{fault:?}: {report}");
         assert!(report.text.contains(text), "{fault:?}: {report}");
         assert!(report.smallest.contains(text), "{fault:?}: {report}");
+    }
+}
+
+/// A cell that a refused call of that name puts 0 into is told.
+fn zeroed<S: std::fmt::Debug>(
+    call: &'static str,
+    cell: usize,
+    run: fn(Bounds) -> Result<S, Box<Report>>,
+) {
+    let report = found(Fault::ZeroedCell(call, cell), run);
+    let text = "which goes with no cells";
+    assert!(report.call.starts_with(call), "{call} {cell}: {report}");
+    assert!(report.text.contains(text), "{call} {cell}: {report}");
+}
+
+#[test]
+fn each_cell_zeroed_on_refusal() {
+    for (call, cell) in [("section", 0), ("section", 1), ("write", 0)] {
+        zeroed(call, cell, books::run);
     }
 }
 
@@ -120,7 +134,6 @@ mod requests {
     fn faults_in_requests() {
         for (fault, call, text) in [
             (Fault::TableOnRefusal, "", "it should have stayed as it was"),
-            (Fault::CellOnRefusal, "", "which goes with no cells"),
             (Fault::WrongNumber, "", "engine no 12, model no 13"),
             (Fault::WrongCount, "", "engine Orders("),
             (Fault::PastTheRows, "", "the list at"),
@@ -140,6 +153,22 @@ mod requests {
             assert!(report.call.starts_with(call), "{fault:?}: {report}");
             assert!(report.text.contains(text), "{fault:?}: {report}");
             assert!(report.smallest.contains(text), "{fault:?}: {report}");
+        }
+    }
+
+    #[test]
+    fn each_cell_zeroed_on_refusal() {
+        for (call, cell) in [
+            ("join", 0),
+            ("insert", 0),
+            ("grant", 0),
+            ("revoke", 0),
+            ("view", 0),
+            ("open", 0),
+            ("open", 1),
+            ("serve", 0),
+        ] {
+            zeroed(call, cell, requests::run);
         }
     }
 

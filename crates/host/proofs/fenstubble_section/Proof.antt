@@ -11,8 +11,8 @@ use Rattle.host.proofs.fenstubble_section.Statement.{statement}
 use Rattle.host.proofs.fenstubble_section.Tie as tie
 
 -- the cell is 0
-passed : (c : tie.Then1) → let s = c .before .before .before .before in (isBook (s .args .bytes .now) ≡ true) × (s .args .k < 5)
-passed c = section-passed _ _ (c .before .section .ensures) (c .if1 .taken)
+passed : (c : tie.Else1) → let s = c .before .before .before .before in (isBook (s .args .bytes .now) ≡ true) × (s .args .k < 5)
+passed c = section-passed _ _ (c .before .section .ensures) (c .if1 .left)
 
 section-requires : tie.Need-section-requires
 section-requires c κs = search needs
@@ -24,13 +24,13 @@ start-of-requires : tie.Need-start-of-requires
 start-of-requires c κs = omega (arith, passed (c .before) .1)
 
 returns : tie.Need-returns
-returns c =
-    let t = c .before .before in
-    section-given _ _ (t .before .section .ensures) (t .if1 .taken) (c .before .head-in .ensures) (c .start-of .ensures)
+returns c = section-refused _ _ _ _ (c .before .section .ensures) (c .if1 .taken)
 
 returns-2 : tie.Need-returns-2
-returns-2 c = section-refused _ _ (c .before .section .ensures) (c .if1 .left)
+returns-2 c =
+    let e = c .before .before in
+    section-given _ _ _ _ (e .before .section .ensures) (e .if1 .left) (c .before .head-in .ensures) (c .start-of .ensures)
 
 pub fenstubble-section-spec : {M : Type 1} → statement M
 fenstubble-section-spec =
-    tie.close (tie.spec section-requires head-in-requires start-of-requires returns returns-2)
+    tie.close (tie.spec section-requires returns head-in-requires start-of-requires returns-2)

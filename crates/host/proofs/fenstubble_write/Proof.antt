@@ -6,7 +6,7 @@ use Rattle.host.proofs.fenstubble_write.Statement.{statement}
 use Rattle.host.proofs.fenstubble_write.Tie as tie
 
 returns : tie.Need-returns
-returns c = write-short _ _ _ (c .if1 .taken)
+returns c = write-short _ _ _ _ (c .if1 .taken)
 
 head-of-requires : tie.Need-head-of-requires
 head-of-requires c κs = search needs
@@ -29,7 +29,7 @@ same-length c = search needs
 returns-2 : tie.Need-returns-2
 returns-2 c =
     let w = c .before .before .before .before .before .before in
-    write-refused _ _ _ (omega (arith, w .before .before .before .if1 .left)) (w .before .before .head-of .ensures) (w .write .ensures) (c .before .before .a .given .1) (c .refusal-number .ensures)
+    write-refused _ _ _ _ (omega (arith, w .before .before .before .if1 .left)) (w .before .before .head-of .ensures) (w .write .ensures) (c .before .before .a .given .1) (c .refusal-number .ensures)
 
 same-length-2 : tie.Need-same-length-2
 same-length-2 c = search needs
@@ -37,7 +37,7 @@ same-length-2 c = search needs
 returns-3 : tie.Need-returns-3
 returns-3 c =
     let w = c .before .before .before .before .before in
-    write-given _ _ _ (omega (arith, w .before .before .before .if1 .left)) (w .before .before .head-of .ensures) (w .write .ensures) (c .before .a2 .given .1)
+    write-given _ _ _ _ (omega (arith, w .before .before .before .if1 .left)) (w .before .before .head-of .ensures) (w .write .ensures) (c .before .a2 .given .1)
 
 pub fenstubble-write-spec : {M : Type 1} → statement M
 fenstubble-write-spec =

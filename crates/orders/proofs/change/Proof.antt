@@ -63,7 +63,7 @@ use Rattle.rules.proofs.Changed as TC
 use Rattle.rules.proofs.Changed.Laws as TC′
 use Rattle.plan.specs.declared.Request.{Request}
 use Rattle.plan.specs.Judge.{requestOf}
-use Rattle.orders.specs.Records.{over, ordersIn, filled, countOf, recording, recorded}
+use Rattle.orders.specs.Records.{over, ordersIn, mostNumbers, filled, countOf, recording, recorded}
 use Rattle.orders.proofs.Records.{zeros, zeros-are, zeros-length}
 use Rattle.orders.proofs.Enough.{filled-counts, recorded-by}
 use Rattle.plan.proofs.Request as TR
@@ -89,10 +89,10 @@ abbrev stayed : Stays (self.ended .signature .params) (self.ended .kept)
 stayed = (stay-none (λ _. TH.the-row) yes, (gave-slice (0 ∷ []) tt (plain (λ _. u8)), (gave-slice (1 ∷ []) tt (plain (λ _. u8)), (gave-slice (2 ∷ []) tt (plain (λ _. u8)), (gave-slice (3 ∷ []) tt (plain (λ _. u8)), (gave-slice (4 ∷ []) tt (plain (λ _. u8)), (stay-none (λ _. TR.the-row) yes, (gave-slice (5 ∷ []) tt (plain (λ _. T.the-row)), tt))))))))
 
 abbrev Rows : RattleType
-Rows = Array u16 1155
+Rows = Array u16 mostNumbers
 
 abbrev none : Val
-none = arrayVal (replicate 1155 (vint w16 0))
+none = arrayVal (replicate mostNumbers (vint w16 0))
 
 -- a constant that is too large for `lit`
 module _ {M : Type 1} {𝓤 : URA M} {H : Heap 𝓤} {A : Atoms 𝓤} {K : Type 0} {W : Given 𝓤 H A} {Γ : List (Item 𝓤)} {E : Env 𝓤 H} where
@@ -187,10 +187,10 @@ module _ {M : Type 1} (𝓤 : URA M) (H : Heap 𝓤) (A : Atoms 𝓤) (W : Given
   fill-a m δ = (h, (iv, (it, (ov, (ot, (rs, (x, (at-rows m δ zeros, (length (list .now), tt)))))))))
 
   abbrev to-fill : (m ν : ℕ) (δ : GName) → Fill 𝓤 H A mem run .Ghost
-  to-fill m ν δ = ((fill-κs ν, (q0, (q1, (q2, (q3, (q4, (fullShare, tt)))))), tt, fill-a m δ, (hv ∷ [], (s-iv ∷ [], (s-it ∷ [], (s-ov ∷ [], (s-ot ∷ [], (s-rs ∷ [], (xv ∷ [], (sliceVal (m, 0) 1155 ∷ [], (vint w64 (length (list .now)) ∷ [], tt)))))))))), tt)
+  to-fill m ν δ = ((fill-κs ν, (q0, (q1, (q2, (q3, (q4, (fullShare, tt)))))), tt, fill-a m δ, (hv ∷ [], (s-iv ∷ [], (s-it ∷ [], (s-ov ∷ [], (s-ot ∷ [], (s-rs ∷ [], (xv ∷ [], (sliceVal (m, 0) mostNumbers ∷ [], (vint w64 (length (list .now)) ∷ [], tt)))))))))), tt)
 
   abbrev Fill-items : (m ν : ℕ) (δ : GName) → List (Item 𝓤)
-  Fill-items m ν δ = ‵ (flft κ0 q0) ∷ ‵ (flft κ1 q1) ∷ ‵ (flft κ2 q2) ∷ ‵ (flft κ3 q3) ∷ ‵ (flft κ4 q4) ∷ ‵ (flft (ν ∷ []) fullShare) ∷ ‵ (MutSlice (named 0) κ0 u8 .own iv (s-iv ∷ [])) ∷ ‵ (MutSlice (named 1) κ1 u8 .own it (s-it ∷ [])) ∷ ‵ (MutSlice (named 2) κ2 u8 .own ov (s-ov ∷ [])) ∷ ‵ (MutSlice (named 3) κ3 u8 .own ot (s-ot ∷ [])) ∷ ‵ (MutSlice (named 4) κ4 u8 .own rs (s-rs ∷ [])) ∷ ‵ (Rows-mut m ν δ 1155) ∷ []
+  Fill-items m ν δ = ‵ (flft κ0 q0) ∷ ‵ (flft κ1 q1) ∷ ‵ (flft κ2 q2) ∷ ‵ (flft κ3 q3) ∷ ‵ (flft κ4 q4) ∷ ‵ (flft (ν ∷ []) fullShare) ∷ ‵ (MutSlice (named 0) κ0 u8 .own iv (s-iv ∷ [])) ∷ ‵ (MutSlice (named 1) κ1 u8 .own it (s-it ∷ [])) ∷ ‵ (MutSlice (named 2) κ2 u8 .own ov (s-ov ∷ [])) ∷ ‵ (MutSlice (named 3) κ3 u8 .own ot (s-ot ∷ [])) ∷ ‵ (MutSlice (named 4) κ4 u8 .own rs (s-rs ∷ [])) ∷ ‵ (Rows-mut m ν δ mostNumbers) ∷ []
 
   goes-fill : (m ν : ℕ) (δ : GName) → ent 𝓤 (⋆ 𝓤 H A (Fill-items m ν δ)) (⋆ 𝓤 H A (raw (Fill 𝓤 H A mem run .pre (to-fill m ν δ)) ∷ []))
   goes-fill m ν δ =
@@ -229,10 +229,10 @@ module _ {M : Type 1} (𝓤 : URA M) (H : Heap 𝓤) (A : Atoms 𝓤) (W : Given
   Store-lasts = List Order × (Unit {0} × (Unit {0} × Unit {0}))
 
   abbrev to-store : (m ν : ℕ) (δ : GName) (ys : List ℕ) (n : ℕ) → Store 𝓤 H A mem run .Ghost
-  to-store m ν δ ys n = (((κ5, (ν ∷ [], tt)), (q5, (fullShare, tt)), tt, (list, (at-rows m δ ys, (n, tt))), (s-list ∷ [], (sliceVal (m, 0) 1155 ∷ [], (vint w64 n ∷ [], tt)))), tt)
+  to-store m ν δ ys n = (((κ5, (ν ∷ [], tt)), (q5, (fullShare, tt)), tt, (list, (at-rows m δ ys, (n, tt))), (s-list ∷ [], (sliceVal (m, 0) mostNumbers ∷ [], (vint w64 n ∷ [], tt)))), tt)
 
   abbrev Store-items : (m ν : ℕ) (δ : GName) → List ℕ → List (Item 𝓤)
-  Store-items m ν δ ys = ‵ (flft κ5 q5) ∷ ‵ (flft (ν ∷ []) fullShare) ∷ ‵ (MutSlice (named 5) κ5 T.the-row .own list (s-list ∷ [])) ∷ ‵ (Rows-shr m ν δ ys 1155) ∷ []
+  Store-items m ν δ ys = ‵ (flft κ5 q5) ∷ ‵ (flft (ν ∷ []) fullShare) ∷ ‵ (MutSlice (named 5) κ5 T.the-row .own list (s-list ∷ [])) ∷ ‵ (Rows-shr m ν δ ys mostNumbers) ∷ []
 
   goes-store : (m ν : ℕ) (δ : GName) (ys : List ℕ) (n : ℕ) → n < 2 ^ 64 → (n * 3 ≤ length ys) × (n ≤ length (list .now)) → ent 𝓤 (⋆ 𝓤 H A (Store-items m ν δ ys)) (⋆ 𝓤 H A (raw (Store 𝓤 H A mem run .pre (to-store m ν δ ys n)) ∷ []))
   goes-store m ν δ ys n fits ok =
@@ -284,10 +284,10 @@ module _ {M : Type 1} (𝓤 : URA M) (H : Heap 𝓤) (A : Atoms 𝓤) (W : Given
         pass1 ! (init ! 42 refl (tt, (tt, (record { fits = room-list .0 }, tt)))) $ pass0 ! $
         -- the array
         owned ! u16 (Is u16) (uint-makes 𝓤 H A W w16) 0 _ (refl, lit< tt) $
-        use1 W (‵ (Rows .own (replicate 1155 0) (none ∷ []))) (array-repeat 𝓤 H A W u16 (uint-copy 𝓤 H A W w16) 1155 0 (vint w16 0)) $
-        peeks ! Rows (Is Rows) (shows 𝓤 H A Rows) (replicate 1155 0) (none ∷ []) (λ is₀.
-        assigns ! (rep ! 1155 (lit ! tt)) (from ! (stop !)) (init ! 41 refl (array-lawful 𝓤 H A W u16 (uint-lawful 𝓤 H A W w16) 1155 .typed (replicate 1155 0) (none ∷ []) is₀ .0)) $
-        move ! (41 ∷ 0 ∷ []) $ use2 W (‵ (partAt Rows fullShare (replicate 1155 0) l₉ 0)) (part-in 𝓤 H A W Rows refl fullShare (replicate 1155 0) l₉ 0 none) $
+        use1 W (‵ (Rows .own (replicate mostNumbers 0) (none ∷ []))) (array-repeat 𝓤 H A W u16 (uint-copy 𝓤 H A W w16) mostNumbers 0 (vint w16 0)) $
+        peeks ! Rows (Is Rows) (shows 𝓤 H A Rows) (replicate mostNumbers 0) (none ∷ []) (λ is₀.
+        assigns ! (rep ! mostNumbers (lit ! tt)) (from ! (stop !)) (init ! 41 refl (array-lawful 𝓤 H A W u16 (uint-lawful 𝓤 H A W w16) mostNumbers .typed (replicate mostNumbers 0) (none ∷ []) is₀ .0)) $
+        move ! (41 ∷ 0 ∷ []) $ use2 W (‵ (partAt Rows fullShare (replicate mostNumbers 0) l₉ 0)) (part-in 𝓤 H A W Rows refl fullShare (replicate mostNumbers 0) l₉ 0 none) $
         rewrite ! 0 (λ (ys : List ℕ). ‵ (partAt Rows fullShare ys l₉ 0)) zeros-are refl $
         assigns ! (addr ! (from ! (fld ! refl (hop ! (look-in ! 54 (sub ! 0 refl (whole !))) (stop !))))) (from ! (stop !)) (init ! 35 refl (tt, tt)) $
         assigns ! (agg ! (and-then ! (load ! (from ! (stop !)) (look ! 35 refl)) (and-then ! (load ! (from ! (fld ! refl (stop !))) (look-in ! 54 (sub ! 1 refl (whole !)))) (no-more !)))) (from ! (stop !)) (init ! 33 refl (tt, (tt, (record { fits = room-iv .0 }, tt)))) $
@@ -303,7 +303,7 @@ module _ {M : Type 1} (𝓤 : URA M) (H : Heap 𝓤) (A : Atoms 𝓤) (W : Given
         assigns ! (agg ! (and-then ! (load ! (from ! (stop !)) (look ! 15 refl)) (and-then ! (big-lit ! (record { fits = lit< tt })) (no-more !)))) (from ! (stop !)) (init ! 13 refl (tt, (tt, (record { fits = lit< tt }, tt)))) $
         assigns ! (of-opd ! (load ! (from ! (fld ! refl (stop !))) (look-in ! 42 (sub ! 1 refl (whole !))))) (from ! (stop !)) (init ! 11 refl (tt, record { fits = room-list .0 })) $
         -- it is lent, for a lifetime ν of the call
-        move ! (0 ∷ []) $ use1 W (‵ (arr-parts (shares u16) 1155 .part fullShare zeros l₉ 0)) (array-apart 𝓤 H A W u16 fullShare tt 1155 zeros l₉ 0) $ fsplit ! $ drop ! $
+        move ! (0 ∷ []) $ use1 W (‵ (arr-parts (shares u16) mostNumbers .part fullShare zeros l₉ 0)) (array-apart 𝓤 H A W u16 fullShare tt mostNumbers zeros l₉ 0) $ fsplit ! $ drop ! $
         use1 W (‵ (cells (inMem u16) zeros l₉ 0)) (whole-in 𝓤 H A W u16 zeros l₉ 0) $
         lft-new ! tt (λ ν.
         move ! (1 ∷ []) $ use1 W (later (some (λ (γ₁ : GName). ‵ (Rows-mut l₉ ν γ₁ (length zeros)) ⊛ ‵ (flent (ν ∷ []) (Held u16 (length zeros) l₉ 0 γ₁))))) (lends-slice 𝓤 H A W u16 (named 5) (ν ∷ []) zeros l₉ 0 (subst (Room u16) (sym zeros-length) (lit< tt, lit< tt))) $
@@ -351,7 +351,7 @@ module _ {M : Type 1} (𝓤 : URA M) (H : Heap 𝓤) (A : Atoms 𝓤) (W : Given
         move ! (1 ∷ []) $ fsplit ! $
         fsplit ! $
         move ! (1 ∷ []) $ feqL ! (λ len-rows.
-        let len-r : length (rows zs) ≡ 1155 = len-rows ∙ zeros-length in
+        let len-r : length (rows zs) ≡ mostNumbers = len-rows ∙ zeros-length in
         move ! (9 ∷ []) $ split ! $
         move ! (1 ∷ []) $ peeks ! TC.the-row (Is TC.the-row) (shows 𝓤 H A TC.the-row) c (w ∷ []) (λ is.
         land ! (from ! (stop !)) (init ! 56 refl (EL.lawful TC.the-type TC′.the-laws 𝓤 H A W tt .typed c _ is .0)) $
@@ -373,7 +373,7 @@ module _ {M : Type 1} (𝓤 : URA M) (H : Heap 𝓤) (A : Atoms 𝓤) (W : Given
         move ! (1 ∷ []) $ split ! $
         move ! (1 ∷ []) $ split ! $
         move ! (1 ∷ []) $ move ! (1 ∷ []) $ lft-end ! tt $
-        move ! (0 ∷ 24 ∷ 9 ∷ []) $ use3 W (later (‵ (Arr (inMem u16) 1155 .lies (rows zs) l₉ 0))) (slice-back 𝓤 H A W u16 (ν ∷ []) γ₁ (rows zs) 1155 l₉ 0) $ await ! tt $ fsplit ! $ drop ! $
+        move ! (0 ∷ 24 ∷ 9 ∷ []) $ use3 W (later (‵ (Arr (inMem u16) mostNumbers .lies (rows zs) l₉ 0))) (slice-back 𝓤 H A W u16 (ν ∷ []) γ₁ (rows zs) mostNumbers l₉ 0) $ await ! tt $ fsplit ! $ drop ! $
         use1 W (‵ (row u16 fullShare (rows zs) l₉ 0)) (whole-out 𝓤 H A W u16 (rows zs) l₉ 0) $ feqI ! ℕ (length (rows zs)) (length (rows zs)) refl $ fjoin ! $
         assigns ! (addr ! (from ! (fld ! refl (hop ! (look-in ! 64 (sub ! 0 refl (whole !))) (stop !))))) (from ! (stop !)) (init ! 29 refl (tt, tt)) $
         assigns ! (agg ! (and-then ! (load ! (from ! (stop !)) (look ! 29 refl)) (and-then ! (load ! (from ! (fld ! refl (stop !))) (look-in ! 64 (sub ! 1 refl (whole !)))) (no-more !)))) (from ! (stop !)) (init ! 27 refl (tt, (tt, (record { fits = room-list .0 }, tt)))) $
@@ -402,8 +402,8 @@ module _ {M : Type 1} (𝓤 : URA M) (H : Heap 𝓤) (A : Atoms 𝓤) (W : Given
         move ! (1 ∷ []) $ move ! (1 ∷ []) $ lft-end ! tt $
         move ! (0 ∷ 5 ∷ []) $ lent-back ! tt $
         rewrite ! 0 (λ (m : ℕ). ‵ (arr-parts (shares u16) m .part fullShare (rows zs) l₉ 0)) len-r refl $
-        use1 W (‵ (partAt Rows fullShare (rows zs) l₉ 0)) (array-whole 𝓤 H A W u16 fullShare 1155 (rows zs) l₉ 0) $
-        use1 W (some (λ (v : Val). ‵ (fat fullShare (tyArray (tyInt w16) 1155) l₉ 0 v) ⊛ ‵ (Rows .own (rows zs) (v ∷ [])))) (part-out 𝓤 H A W Rows refl fullShare (rows zs) l₉ 0) $ pick ! (λ v. split ! $
+        use1 W (‵ (partAt Rows fullShare (rows zs) l₉ 0)) (array-whole 𝓤 H A W u16 fullShare mostNumbers (rows zs) l₉ 0) $
+        use1 W (some (λ (v : Val). ‵ (fat fullShare (tyArray (tyInt w16) mostNumbers) l₉ 0 v) ⊛ ‵ (Rows .own (rows zs) (v ∷ [])))) (part-out 𝓤 H A W Rows refl fullShare (rows zs) l₉ 0) $ pick ! (λ v. split ! $
         move ! (1 ∷ []) $ drop ! $
         -- the answer
         assigns ! (of-opd ! (load ! (from ! (stop !)) (look ! 63 refl))) (from ! (stop !)) (init ! 82 refl (EL.lawful TC.the-type TC′.the-laws 𝓤 H A W tt .typed c _ is .0)) $

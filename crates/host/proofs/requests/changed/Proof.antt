@@ -13,7 +13,7 @@ left c =
     tables (u .0) (u .1 .0) (u .1 .1 .0) (u .1 .1 .1 .0) (u .1 .1 .1 .1 .0)
 
 returns : tie.Need-returns
-returns c = change-short _ _ _ _ (c .if1 .taken)
+returns c = change-short _ _ _ _ _ (c .if1 .taken)
 
 head-of-requires : tie.Need-head-of-requires
 head-of-requires c κs = search needs
@@ -50,7 +50,7 @@ returns-2 c =
     let t = c .before .before in
     let r = t .before .before .before .before .before .before .before .before .before .before .before .before .before .before .before in
     let h = r .before .before .before .before .before .before .before in
-    change-told _ _ _ _ {u = left r} (omega (arith, h .before .before .if1 .left)) (h .head-of .ensures) (r .change .ensures) (t .told .ensures)
+    change-told _ _ _ _ _ {u = left r} (omega (arith, h .before .before .if1 .left)) (h .head-of .ensures) (r .change .ensures) (t .told .ensures)
 
 pub changed-spec : {M : Type 1} → statement M
 changed-spec =

@@ -6,7 +6,7 @@ use Rattle.host.proofs.requests.fenstubble_open.Statement.{statement}
 use Rattle.host.proofs.requests.fenstubble_open.Tie as tie
 
 returns : tie.Need-returns
-returns c = open-short _ _ _ _ _ (c .if1 .taken)
+returns c = open-short _ _ _ _ _ _ _ (c .if1 .taken)
 
 head-of-requires : tie.Need-head-of-requires
 head-of-requires c κs = search needs
@@ -29,7 +29,7 @@ same-length c = search needs
 returns-2 : tie.Need-returns-2
 returns-2 c =
     let w = c .before .before .before .before .before .before in
-    open-refused _ _ _ _ _ (omega (arith, w .before .before .before .if1 .left)) (w .before .before .head-of .ensures) (w .«open» .ensures) (c .before .before .w .given .1) (c .result-of .ensures)
+    open-refused _ _ _ _ _ _ _ (omega (arith, w .before .before .before .if1 .left)) (w .before .before .head-of .ensures) (w .«open» .ensures) (c .before .before .w .given .1) (c .result-of .ensures)
 
 same-length-2 : tie.Need-same-length-2
 same-length-2 c = search needs
@@ -37,7 +37,7 @@ same-length-2 c = search needs
 returns-3 : tie.Need-returns-3
 returns-3 c =
     let w = c .before .before .before .before .before in
-    open-given _ _ _ _ _ (omega (arith, w .before .before .before .if1 .left)) (w .before .before .head-of .ensures) (w .«open» .ensures) (c .before .w2 .given .1)
+    open-given _ _ _ _ _ _ _ (omega (arith, w .before .before .before .if1 .left)) (w .before .before .head-of .ensures) (w .«open» .ensures) (c .before .w2 .given .1)
 
 pub fenstubble-open-spec : {M : Type 1} → statement M
 fenstubble-open-spec =

@@ -13,7 +13,7 @@ left c =
     tables (u .0) (u .1 .0) (u .1 .1 .0) (u .1 .1 .1 .0) (u .1 .1 .1 .1 .0)
 
 returns : tie.Need-returns
-returns c = serve-short _ _ _ _ _ (c .if1 .taken)
+returns c = serve-short _ _ _ _ _ _ (c .if1 .taken)
 
 head-of-requires : tie.Need-head-of-requires
 head-of-requires c κs = search needs
@@ -53,7 +53,7 @@ returns-2 c =
     let t = c .before .before in
     let r = t .before .before .before .before .before .before .before .before .before .before .before .before .before .before .before .before .before in
     let h = r .before .before .before .before .before .before .before .before in
-    serve-told _ _ _ _ _ {u = left r} (omega (arith, h .before .before .if1 .left)) (h .head-of .ensures) (r .serve .ensures) (t .told-all .ensures)
+    serve-told _ _ _ _ _ _ {u = left r} (omega (arith, h .before .before .if1 .left)) (h .head-of .ensures) (r .serve .ensures) (t .told-all .ensures)
 
 pub fenstubble-serve-spec : {M : Type 1} → statement M
 fenstubble-serve-spec =

@@ -6,7 +6,7 @@ use Rattle.host.proofs.requests.fenstubble_view.Statement.{statement}
 use Rattle.host.proofs.requests.fenstubble_view.Tie as tie
 
 returns : tie.Need-returns
-returns c = view-short _ _ _ _ (c .if1 .taken)
+returns c = view-short _ _ _ _ _ (c .if1 .taken)
 
 head-of-requires : tie.Need-head-of-requires
 head-of-requires c κs = search needs
@@ -29,12 +29,12 @@ view-number-requires c κs = search needs
 returns-2 : tie.Need-returns-2
 returns-2 c =
     let w = c .before .before .before .before in
-    view-refused _ _ _ _ (omega (arith, w .before .before .if1 .left)) (w .before .head-of .ensures) (w .view .ensures) (c .before .before .w .given .1) (c .result-of .ensures)
+    view-refused _ _ _ _ _ (omega (arith, w .before .before .if1 .left)) (w .before .head-of .ensures) (w .view .ensures) (c .before .before .w .given .1) (c .result-of .ensures)
 
 returns-3 : tie.Need-returns-3
 returns-3 c =
     let w = c .before .before .before .before in
-    view-given _ _ _ _ (omega (arith, w .before .before .if1 .left)) (w .before .head-of .ensures) (w .view .ensures) (c .before .before .w2 .given .1) (c .view-number .ensures)
+    view-given _ _ _ _ _ (omega (arith, w .before .before .if1 .left)) (w .before .head-of .ensures) (w .view .ensures) (c .before .before .w2 .given .1) (c .view-number .ensures)
 
 pub fenstubble-view-spec : {M : Type 1} → statement M
 fenstubble-view-spec =

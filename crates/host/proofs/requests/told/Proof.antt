@@ -17,13 +17,13 @@ put-head-requires : tie.Need-put-head-requires
 put-head-requires c κs = search needs
 
 returns : tie.Need-returns
-returns c = told-refused _ (c .before .before .c .given .1) (c .result-of .ensures)
+returns c = told-refused _ _ (c .before .before .c .given .1) (c .result-of .ensures)
 
 same-length : tie.Need-same-length
 same-length c = search needs
 
 returns-2 : tie.Need-returns-2
-returns-2 c = told-done _ (c .before .before .before .before .before .c2 .given .1) (c .before .before .put-head .ensures)
+returns-2 c = told-done _ _ (c .before .before .before .before .before .c2 .given .1) (c .before .before .put-head .ensures)
 
 pub told-spec : {M : Type 1} → statement M
 told-spec =

@@ -17,13 +17,13 @@ put-head-requires : tie.Need-put-head-requires
 put-head-requires c κs = search needs
 
 returns : tie.Need-returns
-returns c = all-refused _ (c .before .before .s .given .1) (c .result-of .ensures)
+returns c = all-refused _ _ (c .before .before .s .given .1) (c .result-of .ensures)
 
 same-length : tie.Need-same-length
 same-length c = search needs
 
 returns-2 : tie.Need-returns-2
-returns-2 c = all-done _ (c .before .before .before .before .before .s2 .given .1) (c .before .before .put-head .ensures)
+returns-2 c = all-done _ _ (c .before .before .before .before .before .s2 .given .1) (c .before .before .put-head .ensures)
 
 pub told-all-spec : {M : Type 1} → statement M
 told-all-spec =
