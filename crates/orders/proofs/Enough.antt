@@ -14,7 +14,7 @@ use Rattle.rules.specs.Book.{Book}
 use Rattle.rules.specs.Requests.{Done}
 use Rattle.rules.specs.Bytes.{Tables, bookIn}
 use Rattle.rules.specs.Refusals.{Request, joins, inserts, grants, revokes, verdict, common, own, limits, work, refusal}
-use Rattle.rules.specs.Calls.{Change, changing, changeBy, change, rowsLent, orderRows}
+use Rattle.rules.specs.Calls.{Change, changing, changeBy, change, rowsLent, orderRows, ordersIn}
 use Rattle.rules.specs.declared.Head.{Head}
 use Rattle.rules.specs.declared.Order.{Order}
 use Rattle.rules.specs.declared.Refusal.{Refusal}
@@ -22,7 +22,7 @@ use Rattle.rules.specs.declared.Changed.{Changed}
 use Rattle.theorems.proofs.RequestLaws.{common-none, verdict-append, limits-none}
 use Rattle.theorems.proofs.OrderLaws.{mostRows, rows-enough}
 use Rattle.theorems.proofs.ServeLaws.{length-orders}
-use Rattle.orders.specs.Records.{over, mostOrders, mostNumbers, least, ordersIn, filled, countOf, recording, recordsBy, recordedBy, recorded}
+use Rattle.orders.specs.Records.{over, mostOrders, mostNumbers, least, filled, countOf, recording, recordsBy, recordedBy, recorded}
 use Rattle.orders.proofs.Records.{over-none, orders-back}
 
 -- ---- 10 on `room` rows is 10 on as many of them as can be needed

@@ -8,10 +8,11 @@ use native.Mathlib.Omega.{arith}
 use lib.ListN.{length, take, drop, getD, set, replicate, length-append, length-drop, length-replicate}
 use lib.Seq.{take-all, take-suc, getD-take, getD-drop, drop-cons, set-at}
 use Rattle.rows.specs.Number.{stored, rowsOf}
-use Rattle.rows.proofs.Table.{length-rows, row-at, rows-front, rows-laid}
-use Rattle.rules.specs.Calls.{orderRow, orderRows}
+use Rattle.rows.proofs.Table.{length-rows, row-at, rows-front}
+use Rattle.rules.specs.Calls.{orderRows, orderAt, orderOf, ordersIn}
 use Rattle.rules.specs.declared.Order.{Order}
-use Rattle.orders.specs.Records.{over, orderAt, orderOf, ordersIn, mostNumbers}
+use Rattle.theorems.proofs.HostCallLaws.{orders-read}
+use Rattle.orders.specs.Records.{over, mostNumbers}
 
 abbrev zeroOrder : Order
 zeroOrder = record { kind = 0; a = 0; b = 0 }
@@ -55,17 +56,9 @@ unfolding over
 over-length list rows i h = simp (length-append, length-drop, length-orders-in) (omega arith)
 
 -- orders that were stored as rows of numbers are read back
-row-wide : (x : Order) → length (orderRow x) ≡ 3
-unfolding orderRow
-row-wide x = refl
-
-row-back : (x : Order) → orderOf (orderRow x) ≡ x
-unfolding orderOf orderAt orderRow
-row-back x = refl
-
 pub orders-back : (os : List Order) (rows : List ℕ) → ordersIn (length os) (stored 0 (orderRows os) rows) ≡ os
-unfolding ordersIn orderRows
-orders-back os rows = rows-laid 3 orderRow orderOf os rows (λ x m. (row-wide x, row-back x))
+unfolding stored
+orders-back os rows = orders-read os (drop (length (orderRows os)) rows)
 
 -- ---- the numbers at first; shut, since they are many
 

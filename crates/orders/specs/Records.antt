@@ -1,12 +1,11 @@
 -- A request whose orders go to a lent list of records: what it answers, and what it leaves in all it was lent.
 -- Assumes nothing.
-use Prim.Native.Nat.{ℕ, _+_, _*_}
+use Prim.Native.Nat.{ℕ, _*_}
 use mathlib.Core.Bool.{cond}
 use mathlib.Core.List.{List, [], _++_}
 use mathlib.Core.Option.{Option, some, none}
 use lib.Dec.{ltb}
-use lib.ListN.{length, drop, getD}
-use Rattle.rows.specs.Number.{rowsOf}
+use lib.ListN.{length, drop}
 use Rattle.rules.specs.Requests.{Done}
 use Rattle.rules.specs.Bytes.{Tables, bookIn}
 use Rattle.rules.specs.Refusals.{Request, work, refusal}
@@ -44,17 +43,6 @@ unfoldable pub recorded : Request → Head → Tables → List Order → Recorde
 recorded q h t list = recordedBy (refusal t (bookIn h t) (length list) q) (work q (bookIn h t)) t list
 
 -- ---- its parts
-
--- row i of some numbers, three to a row
-unfoldable pub orderAt : List ℕ → ℕ → Order
-orderAt rows i = record { kind = getD rows (i * 3) 0; a = getD rows (i * 3 + 1) 0; b = getD rows (i * 3 + 2) 0 }
-
-unfoldable pub orderOf : List ℕ → Order
-orderOf row = orderAt row 0
-
--- the first n rows
-unfoldable pub ordersIn : ℕ → List ℕ → List Order
-ordersIn n rows = rowsOf 3 orderOf n rows
 
 -- the most orders that a request gives (`rows-enough`), and their numbers
 abbrev pub mostOrders : ℕ

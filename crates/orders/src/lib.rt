@@ -9,9 +9,9 @@ ghost use mathlib.Core.Path.{_≡_};
 ghost use Prim.Native.Nat.{_<_, _≤_, _+_, _*_};
 ghost use lib.ListN.{length, set};
 ghost use Rattle.rules.specs.Bytes.{tables};
-ghost use Rattle.rules.specs.Calls.{changing};
+ghost use Rattle.rules.specs.Calls.{changing, orderAt, ordersIn};
 ghost use Rattle.plan.specs.Judge.{requestOf};
-ghost use Rattle.orders.specs.Records.{orderAt, ordersIn, over, mostNumbers, least, countOf, filled, recording, recorded};
+ghost use Rattle.orders.specs.Records.{over, mostNumbers, least, countOf, filled, recording, recorded};
 
 // The most orders that a request gives (`rows-enough`).
 const MOST: usize = 385;

@@ -55,7 +55,7 @@ use Rattle.rules.specs.declared.Order.{Order}
 use Rattle.rules.specs.declared.Head.{Head}
 use Rattle.rules.specs.declared.Changed.{Changed}
 use Rattle.rules.specs.Bytes.{Tables, tables}
-use Rattle.rules.specs.Calls.{changing}
+use Rattle.rules.specs.Calls.{changing, ordersIn}
 use Rattle.rules.proofs.Order as T
 use Rattle.rules.proofs.Head as TH
 use Rattle.rules.proofs.Head.Laws as TH′
@@ -63,7 +63,7 @@ use Rattle.rules.proofs.Changed as TC
 use Rattle.rules.proofs.Changed.Laws as TC′
 use Rattle.plan.specs.declared.Request.{Request}
 use Rattle.plan.specs.Judge.{requestOf}
-use Rattle.orders.specs.Records.{over, ordersIn, mostNumbers, filled, countOf, recording, recorded}
+use Rattle.orders.specs.Records.{over, mostNumbers, filled, countOf, recording, recorded}
 use Rattle.orders.proofs.Records.{zeros, zeros-are, zeros-length}
 use Rattle.orders.proofs.Enough.{filled-counts, recorded-by}
 use Rattle.plan.proofs.Request as TR

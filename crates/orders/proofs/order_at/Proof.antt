@@ -1,6 +1,6 @@
 -- `order_at` meets its contract. Assumes nothing.
 use mathlib.Core.Path.{refl}
-use Rattle.orders.specs.Records.{orderAt}
+use Rattle.rules.specs.Calls.{orderAt}
 use borrow.Author.Needs.{needs}
 use Rattle.orders.proofs.order_at.Statement.{statement}
 use Rattle.orders.proofs.order_at.Tie as tie

@@ -40,7 +40,7 @@ use denote.Triple.Table.{entered, cited}
 use denote.Triple.Walked.{says, needs, Stays, stay-none, stay-none-slice, gave-slice, walkOf, goes-none, goes-none-slice, goes-gave-slice, Walks, ends-at, walked, walk-meets}
 use denote.Exit.{yes}
 use Rattle.rules.specs.declared.Order.{Order}
-use Rattle.orders.specs.Records.{orderAt}
+use Rattle.rules.specs.Calls.{orderAt}
 use Rattle.rules.proofs.Order as T
 use Rattle.rules.proofs.Order.Laws as T′
 use Rattle.orders.proofs.order_at as order-at

@@ -47,7 +47,8 @@ use denote.Triple.Table.{entered, cited}
 use denote.Triple.Walked.{says, needs, Stays, stay-none, stay-none-slice, stay-slice, walkOf, goes-none, goes-none-slice, goes-slice, Walks, ends-at, walked, walk-meets}
 use denote.Exit.{yes}
 use Rattle.rules.specs.declared.Order.{Order}
-use Rattle.orders.specs.Records.{orderAt, ordersIn, over}
+use Rattle.rules.specs.Calls.{orderAt, ordersIn}
+use Rattle.orders.specs.Records.{over}
 use Rattle.orders.proofs.Again.{LentAgain, lends-again, comes-back}
 use Rattle.orders.proofs.Records.{over-none, over-more, over-length}
 use Rattle.rules.proofs.Order as T
