@@ -9,6 +9,10 @@ people = 64
 abbrev pub bytes : ℕ
 bytes = 8
 
+-- nobody, as a value: what an array of sets has past its end
+abbrev pub nobody : Users
+nobody = record { 0 = 0 }
+
 -- the set that is kept
 abbrev pub setIn : Users → ℕ
 setIn s = s .0
