@@ -21,7 +21,7 @@ ghost use lib.ListN.{length, take, getD};
 ghost use Rattle.rows.specs.Number.{stored};
 ghost use Rattle.book.specs.Ready.{Loadable, Savable};
 ghost use Rattle.rules.specs.Calls.{sectionCall, readCall, writeCall, part, loading, writing};
-ghost use Rattle.rules.specs.Bytes.{isBook, tables, headIn, header, counts, start, laid, read, bookIn, write, Room};
+ghost use Rattle.rules.specs.Bytes.{isBook, tables, headIn, header, counts, start, laid, read, bookIn, write};
 
 // The head that a book's first 17 bytes give.
 pub fn head_in(bytes: &[u8]) -> Head

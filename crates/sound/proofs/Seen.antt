@@ -18,7 +18,7 @@ use Rattle.rules.specs.Lists.{first, some, upTo}
 use Rattle.rules.specs.Layer.{token}
 use Rattle.rules.specs.declared.Token.{Token}
 use Rattle.theorems.proofs.ListLaws.{some-append, some-more, take-mem}
-use Rattle.layer.specs.Laid.{foundIn}
+use Rattle.layer.specs.Laid.{maxVertices, foundIn}
 use Rattle.layer.specs.declared.table.Found.the-variants.{At}
 use Rattle.layer.proofs.Search.{Passed, number-here, number-on}
 use Rattle.sound.specs.Faults.{repeated, sameEnds, again, Ends}
@@ -128,7 +128,7 @@ module _ (sets : List ℕ) (n : ℕ) where
 -- ---- S6: tokens have one mark exactly if they have the same ends
 
 abbrev pub endsOf : Token → ℕ
-endsOf t = t .to * 512 + t .from
+endsOf t = t .to * maxVertices + t .from
 
 module _ (ts : List Token) (n : ℕ) where
   -- none of the first i tokens repeats an earlier one, and their marks are set
@@ -138,7 +138,7 @@ module _ (ts : List Token) (n : ℕ) where
   pub apart-none : Apart 0 (replicate 4096 0)
   apart-none = (omega arith, met-none endsOf ts 4096)
 
-  module _ (ends : Ends 512 ts) where
+  module _ (ends : Ends maxVertices ts) where
     same-mark : (s t : Token) → List·Memᴰ s ts → List·Memᴰ t ts → sameEnds s t ≡ eqb (endsOf s) (endsOf t)
     same-mark s t m k =
         same (sameEnds s t) (eqb (endsOf s) (endsOf t))
