@@ -29,12 +29,12 @@ pub fn head_in(bytes: &[u8]) -> Head
     ensures { λ r. ⌜ r ≡ headIn (now (bytes .entry)) ⌝ }
 {
     let mode = Mode(bytes[5] as u16);
-    let users = Joined(bytes[6] as u16);
-    let resources = Resources(rows::get2(bytes, 7));
-    let inner_vertices = InnerVertices(rows::get2(bytes, 9));
-    let inner_tokens = InnerTokens(rows::get2(bytes, 11));
-    let outer_vertices = OuterVertices(rows::get2(bytes, 13));
-    let outer_tokens = OuterTokens(rows::get2(bytes, 15));
+    let users = Joined::new(bytes[6] as u16);
+    let resources = Resources::new(rows::get2(bytes, 7));
+    let inner_vertices = InnerVertices::new(rows::get2(bytes, 9));
+    let inner_tokens = InnerTokens::new(rows::get2(bytes, 11));
+    let outer_vertices = OuterVertices::new(rows::get2(bytes, 13));
+    let outer_tokens = OuterTokens::new(rows::get2(bytes, 15));
     Head {
         mode,
         users,
