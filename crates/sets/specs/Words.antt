@@ -12,3 +12,7 @@ bytes = 8
 -- the set that is kept
 abbrev pub setIn : Users → ℕ
 setIn s = s .0
+
+-- and the value that keeps a set
+abbrev pub usersOf : ℕ → Users
+usersOf n = record { 0 = n }
