@@ -22,10 +22,10 @@ use Rattle.rules.specs.declared.Token.{Token}
 use Rattle.theorems.proofs.ListLaws.{every-mem, getD-mem}
 use Rattle.theorems.proofs.SoundLaws.{Counts, counts-are}
 use Rattle.theorems.proofs.ByteLaws.{Long, short-long, head-in}
-use Rattle.layer.specs.Laid.{Laid, layerOf, foundIn}
+use Rattle.layer.specs.Laid.{Laid, innerShape, outerShape, layerOf, foundIn}
 use Rattle.layer.specs.declared.walk.Shape.{Shape}
 use Rattle.layer.proofs.Read.{length-tokens, length-resources}
-use Rattle.sound.specs.Check.{countsOf, nothing, innerShape, outerShape}
+use Rattle.sound.specs.Check.{countsOf, nothing}
 use Rattle.sound.specs.Faults.{placedIn, placedAt, Ends, Inners, OuterIs, Outers}
 use Rattle.sound.proofs.Answers.{none-breaks, part}
 use Rattle.sound.proofs.RuleParts.{strangeTokens, counts-of, s1-parts}

@@ -22,11 +22,11 @@ use Rattle.theorems.proofs.ListLaws.{every-mem, mem-every, length-numbered, len
 use Rattle.theorems.proofs.RuleLaws.{kind-cases}
 use Rattle.theorems.proofs.RowLaws.{outer-plain}
 use Rattle.theorems.proofs.ByteLaws.{head-in}
-use Rattle.layer.specs.Laid.{layerOf, foundIn, isSet}
+use Rattle.layer.specs.Laid.{innerShape, outerShape, layerOf, foundIn, isSet}
 use Rattle.layer.specs.declared.table.Found.{Found}
 use Rattle.layer.specs.declared.walk.Shape.{Shape}
 use Rattle.layer.proofs.Read.{length-sets, length-tokens, length-resources}
-use Rattle.sound.specs.Check.{countsOf, nothing, innerShape, outerShape}
+use Rattle.sound.specs.Check.{countsOf, nothing}
 use Rattle.sound.specs.Faults.{placedIn, hasOwnIn, keeps, repeated, sameEnds, again, placedAt, lockedBy}
 use Rattle.sound.specs.declared.layers.Rule.{Rule}
 use Rattle.sound.specs.declared.layers.Rule.the-variants as rule

@@ -11,7 +11,6 @@ use Rattle.rules.specs.declared.Head.{Head}
 use Rattle.rules.specs.declared.Refusal.{Refusal}
 use Rattle.layer.specs.declared.table.Found.{Found}
 use Rattle.layer.specs.declared.table.Found.the-variants.{At, Nothing}
-use Rattle.layer.specs.declared.walk.Shape.{Shape}
 use Rattle.sound.specs.declared.Checked.{Checked}
 use Rattle.sound.specs.declared.Checked.the-variants.{Sound, No}
 
@@ -27,13 +26,6 @@ countsOf h =
 abbrev pub nothing : Found → Bool
 nothing (At i) = false
 nothing Nothing = true
-
--- how the two layers lie in their tables
-abbrev pub innerShape : Head → Shape
-innerShape h = record { width = 5; tokens = h .«inner_tokens» .0; vertices = h .«inner_vertices» .0 }
-
-abbrev pub outerShape : Head → Shape
-outerShape h = record { width = 4; tokens = h .«outer_tokens» .0; vertices = h .«outer_vertices» .0 }
 
 -- 13, 12, or a sound book
 unfoldable pub checkedBy : Option Refusal → Checked

@@ -12,7 +12,8 @@ use crate::resources::unheld;
 use crate::resources::unlocked;
 use layer::table::Found;
 use layer::table::find_set;
-use layer::walk::Shape;
+use layer::walk::inner_shape;
+use layer::walk::outer_shape;
 use rules::Head;
 use rules::InnerTokens;
 use rules::Joined;
@@ -24,7 +25,7 @@ ghost use mathlib.Core.Path.{_≡_};
 ghost use mathlib.Core.Bool.{true};
 ghost use Rattle.rules.specs.Bytes.{tables, bookIn, Room};
 ghost use Rattle.rules.specs.Sound.{S1, S2, S3, S4, S5, S6, S7, S8, sound};
-ghost use Rattle.sound.specs.Check.{countsOf, innerShape, outerShape, nothing};
+ghost use Rattle.sound.specs.Check.{countsOf, nothing};
 
 // Whether a search found nothing.
 fn nothing(f: Found) -> bool
@@ -33,26 +34,6 @@ fn nothing(f: Found) -> bool
     match f {
         Found::At(_) => false,
         Found::Nothing => true,
-    }
-}
-
-fn inner_shape(h: Head) -> Shape
-    ensures { λ r. ⌜ r ≡ innerShape h ⌝ }
-{
-    Shape {
-        width: InnerTokens::WIDTH,
-        tokens: h.inner_tokens.0 as usize,
-        vertices: h.inner_vertices.0 as usize,
-    }
-}
-
-fn outer_shape(h: Head) -> Shape
-    ensures { λ r. ⌜ r ≡ outerShape h ⌝ }
-{
-    Shape {
-        width: OuterTokens::WIDTH,
-        tokens: h.outer_tokens.0 as usize,
-        vertices: h.outer_vertices.0 as usize,
     }
 }
 
