@@ -68,18 +68,4 @@ returns c =
 
 pub put-shown-spec : {M : Type 1} → statement M
 put-shown-spec =
-    tie.close
-    (tie.spec
-    slice-aggregate-put-chains
-    put-chains-requires
-    array-share-prefix-list
-    slice-aggregate-put-marked
-    put-marked-requires
-    add-put-marked
-    mul-put-marked
-    sub-put-marked
-    part-put-marked-start
-    part-put-marked-end
-    put-marked-requires-2
-    same-length
-    returns)
+    tie.close (tie.spec slice-aggregate-put-chains put-chains-requires array-share-prefix-list slice-aggregate-put-marked put-marked-requires add-put-marked mul-put-marked sub-put-marked part-put-marked-start part-put-marked-end put-marked-requires-2 same-length returns)
