@@ -24,6 +24,7 @@ use Rattle.rules.specs.declared.Stored.the-variants as store
 use Rattle.sound.specs.Check.{checkedBy, checked}
 use Rattle.sound.specs.declared.Checked.{Checked}
 use Rattle.sound.specs.declared.Checked.the-variants.{Sound, No}
+use Rattle.sound.proofs.Answers.{is-false}
 use Rattle.theorems.proofs.RequestLaws.{common-none, common-passed, verdict-first}
 use Rattle.theorems.proofs.ByteLaws.{BookFits, sound-fits, sound-room, head-in}
 use Rattle.theorems.proofs.WriteLaws.{BookBytes, book-bytes, head-read, length-write, start-next, start-le}
@@ -59,11 +60,7 @@ marked bs byte k =
 
 -- a test that fails
 pub not-book : (bs : List ℕ) → (BookBytes bs → ⊥) → isBook bs ≡ false
-not-book bs fails = go (isBook bs) (λ h. fails (book-bytes bs h))
-  where
-    go : (b : Bool) → (b ≡ true → ⊥) → b ≡ false
-    go true n = absurd (n refl)
-    go false n = refl
+not-book bs fails = is-false (isBook bs) (λ h. fails (book-bytes bs h))
 
 -- with the others passed, the rules decide
 pub book-sound : (bs : List ℕ) → 17 ≤ length bs → cell 3 0 bs ≡ 0x424B54 → cell 2 3 bs ≡ 1 → length bs ≡ start (headIn bs) 5 → isBook bs ≡ sound (read bs)

@@ -6,6 +6,7 @@ use native.Mathlib.Nat.{mod-eq-of-lt}
 use native.Mathlib.Omega.{arith}
 use lib.ListN.{length, getD, take, drop, length-append}
 use lib.Seq.{sets, length-take-le}
+use Rattle.sets.specs.Words.{bytes}
 use Rattle.rows.specs.Number.{bytesOf, stored}
 use Rattle.rows.proofs.Laws.{stored-add, stored-sets, length-stored}
 use Rattle.rules.specs.Bytes.{Bytes, widths, Tables, tables, header, headIn, counts, total, start, section, sections, read, laid, bookIn, write}
@@ -50,11 +51,11 @@ header-stored h t a b c d e f l m u ea eb ec ed ee ef =
 
 -- from one start to the next
 pub record Cuts (h : Head) (a b c d : ℕ) : Type 0 where
-  pub innerVertices : a ≡ 17 + h .«inner_vertices» .0 * 8
+  pub innerVertices : a ≡ 17 + h .«inner_vertices» .0 * bytes
   pub innerTokens : b ≡ a + h .«inner_tokens» .0 * 5
-  pub outerVertices : c ≡ b + h .«outer_vertices» .0 * 8
+  pub outerVertices : c ≡ b + h .«outer_vertices» .0 * bytes
   pub outerTokens : d ≡ c + h .«outer_tokens» .0 * 4
-  pub resources : start h 5 ≡ d + h .resources .0 * 12
+  pub resources : start h 5 ≡ d + h .resources .0 * (bytes + 4)
 
 pub cuts : (h : Head) (a b c d : ℕ) → a ≡ start h 1 → b ≡ start h 2 → c ≡ start h 3 → d ≡ start h 4 → Cuts h a b c d
 unfolding start total counts

@@ -1,10 +1,10 @@
 -- What the copies of a book's sections need.
 -- Assumes nothing.
-use Prim.Native.Nat.{ℕ, _*_, _≤_, _<_}
+use Prim.Native.Nat.{ℕ, _≤_, _<_}
 use mathlib.Core.Path.{_≡_}
 use mathlib.Core.List.{List}
 use lib.ListN.{length}
-use Rattle.rules.specs.Bytes.{Tables, headIn, start, Room, Bytes}
+use Rattle.rules.specs.Bytes.{Tables, headIn, start, Room}
 use Rattle.rules.specs.declared.Head.{Head}
 
 -- bytes of the exact length that their head h gives, and tables with room for their rows

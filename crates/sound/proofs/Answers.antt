@@ -24,6 +24,11 @@ same true q f g = sym (f refl)
 same false true f g = absurd (false≢true (g refl))
 same false false f g = refl
 
+-- a test that can't hold
+pub is-false : (b : Bool) → (b ≡ true → ⊥) → b ≡ false
+is-false true n = absurd (n refl)
+is-false false n = refl
+
 -- ---- one search
 
 nothing-past : (n i : ℕ) → nothing (foundIn n i) ≡ not (ltb i n)

@@ -1,25 +1,21 @@
--- Tests of the rules of one layer by what the code reads: a set of joined users by a shift, the users with a vertex of their own by a union, whether a
+-- Tests of the rules of one layer by what the code reads: the users with a vertex of their own by a union, whether a
 -- vertex has a set by the search for it, and a token's rule by the sets at its ends.
 -- Assumes nothing.
-use Prim.Native.Nat.{ℕ, _+_, _*_, _/_, _^_, _≤_, _<_}
-use mathlib.Core.Path.{_≡_, refl, sym, ap, ap₂, _∙_}
+use Prim.Native.Nat.{ℕ, _+_, _≤_, _<_}
+use mathlib.Core.Path.{_≡_, sym, ap, ap₂, _∙_}
 use mathlib.Core.Bool.{Bool, true, false, _||_, not, or-false}
 use mathlib.Core.List.{List, []}
-use native.Mathlib.Nat.{div-eq-of-lt, div-lt-iff-lt-mul, one-mul}
 use native.Mathlib.Numerals.{add-one}
-use native.Mathlib.Omega.{arith}
-use lib.Dec.{eqb, ltb}
-use lib.Pow.{pow-pos}
+use lib.Dec.{eqb}
 use lib.ListN.{length, take, getD}
 use lib.Seq.{take-all, take-suc}
-use borrow.Author.Tests.{ltb-true, ltb-false, eqb-true, eq-eqb, ne-eqb}
+use borrow.Author.Tests.{eqb-true, eq-eqb, ne-eqb}
 use Rattle.sets.specs.Sets.{has, single, union, inside, size}
 use Rattle.sets.proofs.Laws.{has-empty, has-union, has-own, single-of-size, size-single}
 use Rattle.rules.specs.Lists.{first, some}
 use Rattle.rules.specs.Layer.{Layer, setOf}
 use Rattle.rules.specs.declared.Token.{Token}
 use Rattle.rules.specs.Bytes.{setsIn}
-use Rattle.rules.specs.Sound.{joinedSet}
 use Rattle.theorems.proofs.ListLaws.{some-append}
 use Rattle.layer.specs.Laid.{foundIn, isSet}
 use Rattle.layer.specs.declared.table.Found.{Found}
@@ -30,18 +26,6 @@ use Rattle.sound.specs.Faults.{hasOwnIn, Owners, keeps, keepsBy, repeate
 use Rattle.sound.specs.declared.layers.Rule.{Rule}
 use Rattle.sound.specs.declared.layers.Rule.the-variants.{S4}
 use Rattle.sound.proofs.Answers.{same}
-
--- S1: nothing is left of the set past the first n users
-pub joined-shift : (n s : ℕ) → eqb (s / 2 ^ n) 0 ≡ joinedSet n s
-unfolding joinedSet
-joined-shift n s = go (ltb s (2 ^ n)) refl
-  where
-    go : (b : Bool) → ltb s (2 ^ n) ≡ b → eqb (s / 2 ^ n) 0 ≡ ltb s (2 ^ n)
-    go true e = eq-eqb (s / 2 ^ n) 0 (div-eq-of-lt (ltb-true s (2 ^ n) e)) ∙ sym e
-    go false e =
-        let more : s / 2 ^ n ≡ 0 → ⊥ =
-        λ z. let l : s < 1 * 2 ^ n = div-lt-iff-lt-mul (pow-pos n) .0 (omega arith) in omega (arith, one-mul (2 ^ n), ltb-false s (2 ^ n) e) in
-        ne-eqb (s / 2 ^ n) 0 more ∙ sym e
 
 -- S2: the users who have one of the sets for themselves
 
@@ -88,8 +72,11 @@ unfolding repeated
 repeated-before n vs i h = ap (some (isSet (getD (setsIn n vs) i 0))) (sets-front n vs i h)
 
 -- S4 of a token of kind k between the sets a and b, by the answer r at the last of its tests
-pub rises : (k a b : ℕ) {r : Bool} → (k ≡ 1 → ⊥) → (a ≡ 0 → ⊥) → r ≡ inside a b → r ≡ keepsBy S4 k a b
-rises k a b n z e = rw (ne-eqb k 1 n, ne-eqb a 0 z) e
+pub rises : (k a b : ℕ) {r : Bool} → (k ≡ 1 → ⊥) → eqb a 0 ≡ false → r ≡ inside a b → r ≡ keepsBy S4 k a b
+rises k a b n z e = rw (ne-eqb k 1 n, z) e
+
+pub from-none : (k a b : ℕ) {r : Bool} → (k ≡ 1 → ⊥) → eqb a 0 ≡ true → r ≡ false → r ≡ keepsBy S4 k a b
+from-none k a b n z e = rw (ne-eqb k 1 n, z) e
 
 -- S2, S4 and S6 of a token, by the answer r at the sets that were read at its ends
 pub keeps-read : (rule : Rule) (L : Layer) (t : Token) {a b : ℕ} {r : Bool} → a ≡ setOf L (t .from) → b ≡ setOf L (t .to) → r ≡ keepsBy rule (t .kind) a b

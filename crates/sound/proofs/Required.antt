@@ -9,6 +9,7 @@ use native.Mathlib.Omega.{arith}
 use lib.Dec.{eqb, ltb, leb, lit≤}
 use lib.ListN.{length, getD}
 use borrow.Author.Tests.{eqb-true, ltb-true, not-true, not-false}
+use Rattle.sets.specs.Words.{bytes}
 use Rattle.sets.proofs.Laws.{both, either}
 use Rattle.rules.specs.Lists.{first}
 use Rattle.rules.specs.Book.{Resource, none, hasOuter}
@@ -22,7 +23,7 @@ use Rattle.rules.specs.declared.Token.{Token}
 use Rattle.theorems.proofs.ListLaws.{every-mem, getD-mem}
 use Rattle.theorems.proofs.SoundLaws.{Counts, counts-are}
 use Rattle.theorems.proofs.ByteLaws.{Long, short-long, head-in}
-use Rattle.layer.specs.Laid.{Laid, innerShape, outerShape, layerOf, foundIn}
+use Rattle.layer.specs.Laid.{Laid, innerShape, outerShape, layerOf, maxVertices, foundIn}
 use Rattle.layer.specs.declared.walk.Shape.{Shape}
 use Rattle.layer.proofs.Read.{length-tokens, length-resources}
 use Rattle.sound.specs.Check.{countsOf, nothing}
@@ -81,7 +82,7 @@ pub record Held (l : Shape) (ts vs : List ℕ) : Type 0 where
   pub low : 4 ≤ l .width
   pub high : l .width ≤ 5
   pub rows : l .tokens * l .width ≤ length ts
-  pub sets : l .vertices * 8 ≤ length vs
+  pub sets : l .vertices * bytes ≤ length vs
 
 module _ (h : Head) (t : Tables) (r : Room h t) {l : Shape} where
   pub inner-held : l ≡ innerShape h → Held l (t .innerTokens) (t .innerVertices)
@@ -135,7 +136,7 @@ module _ (h : Head) (t : Tables) (s1 : S1 (bookIn h t) ≡ true) where
     pub inner-ends : Ends (l .vertices) (tokensIn (l .width) (l .tokens) (t .innerTokens))
     inner-ends = token-ends (l .width) (l .tokens) (l .vertices) (t .innerTokens) (part (s1-parts h t e refl) 2 s1)
 
-    pub inner-few : l .vertices ≤ 512
+    pub inner-few : l .vertices ≤ maxVertices
     inner-few = let w = s1-within in rw e (omega arith)
 
     pub inner-laid : Room h t → Laid l (t .innerTokens) (t .innerVertices)
@@ -148,7 +149,7 @@ module _ (h : Head) (t : Tables) (s1 : S1 (bookIn h t) ≡ true) where
     pub outer-ends : Ends (l .vertices) (tokensIn (l .width) (l .tokens) (t .outerTokens))
     outer-ends = token-ends (l .width) (l .tokens) (l .vertices) (t .outerTokens) (part (s1-parts h t refl e) 4 s1)
 
-    pub outer-few : l .vertices ≤ 512
+    pub outer-few : l .vertices ≤ maxVertices
     outer-few = let w = s1-within in rw e (omega arith)
 
     pub outer-laid : Room h t → Laid l (t .outerTokens) (t .outerVertices)

@@ -46,6 +46,10 @@ ownlessUsers u n vs = foundIn u (first (λ v. not (hasOwnIn (setsIn n vs) v)) (u
 abbrev pub emptySets : ℕ → List ℕ → Found
 emptySets n vs = foundIn n (first (isSet 0) (setsIn n vs))
 
+-- the answer r of the search for the set s, which is empty
+pub empty-sought : (n : ℕ) (vs : List ℕ) {s : ℕ} {r : Found} → r ≡ foundIn n (first (isSet s) (setsIn n vs)) → s ≡ 0 → r ≡ emptySets n vs
+empty-sought n vs e z = e ∙ ap (λ (x : ℕ). foundIn n (first (isSet x) (setsIn n vs))) z
+
 abbrev pub faults : Rule → Shape → List ℕ → List ℕ → Found
 faults r l ts vs = foundIn (l .tokens) (first (λ t. not (keeps r (layerOf l ts vs) t)) (tokensIn (l .width) (l .tokens) ts))
 

@@ -1,7 +1,7 @@
 -- S3 and S6, "no two equal", as the code looks for them: a pass over the rows, with a mark for each row that was met.
 -- Assumes nothing.
 use Prim.Native.Nat.{ℕ, _+_, _*_, _/_, _%_, _<_}
-use mathlib.Core.Path.{_≡_, refl, sym, ap, ap₂, _∙_}
+use mathlib.Core.Path.{_≡_, sym, ap, ap₂, _∙_}
 use mathlib.Core.Bool.{Bool, true, false, _||_, or-false, true≢false}
 use mathlib.Core.List.{List, List·Memᴰ}
 use native.Mathlib.Nat.{div-add-mod'}
@@ -18,12 +18,12 @@ use Rattle.rules.specs.Lists.{first, some, upTo}
 use Rattle.rules.specs.Layer.{token}
 use Rattle.rules.specs.declared.Token.{Token}
 use Rattle.theorems.proofs.ListLaws.{some-append, some-more, take-mem}
-use Rattle.layer.specs.Laid.{foundIn}
+use Rattle.layer.specs.Laid.{maxVertices, foundIn}
 use Rattle.layer.specs.declared.table.Found.the-variants.{At}
 use Rattle.layer.proofs.Search.{Passed, number-here, number-on}
 use Rattle.sound.specs.Faults.{repeated, sameEnds, again, Ends}
 use Rattle.sound.specs.Marks.{marked, withMark, markOf}
-use Rattle.sound.proofs.Answers.{same}
+use Rattle.sound.proofs.Answers.{same, is-false}
 use Rattle.sound.proofs.Reading.{row-mem}
 
 -- ---- a mark more
@@ -94,10 +94,6 @@ module _ {A : Type 0} (f : A → ℕ) (xs : List A) (c : ℕ) where
     pub met-before : {r : Bool} → r ≡ marked words k → r ≡ met f xs i (f x)
     met-before a = a ∙ m .marks k w ∙ ap (met f xs i) q
 
-is-false : (b : Bool) → (b ≡ true → ⊥) → b ≡ false
-is-false true n = absurd (n refl)
-is-false false n = refl
-
 -- ---- S3: equal sets have one mark
 
 module _ (sets : List ℕ) (n : ℕ) where
@@ -128,7 +124,7 @@ module _ (sets : List ℕ) (n : ℕ) where
 -- ---- S6: tokens have one mark exactly if they have the same ends
 
 abbrev pub endsOf : Token → ℕ
-endsOf t = t .to * 512 + t .from
+endsOf t = t .to * maxVertices + t .from
 
 module _ (ts : List Token) (n : ℕ) where
   -- none of the first i tokens repeats an earlier one, and their marks are set
@@ -138,7 +134,7 @@ module _ (ts : List Token) (n : ℕ) where
   pub apart-none : Apart 0 (replicate 4096 0)
   apart-none = (omega arith, met-none endsOf ts 4096)
 
-  module _ (ends : Ends 512 ts) where
+  module _ (ends : Ends maxVertices ts) where
     same-mark : (s t : Token) → List·Memᴰ s ts → List·Memᴰ t ts → sameEnds s t ≡ eqb (endsOf s) (endsOf t)
     same-mark s t m k =
         same (sameEnds s t) (eqb (endsOf s) (endsOf t))

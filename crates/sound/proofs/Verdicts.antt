@@ -7,6 +7,7 @@ use mathlib.Core.List.{[], _∷_}
 use lib.Dec.{ltb, leb}
 use lib.ListN.{length}
 use borrow.Author.Tests.{not-true, not-false, ltb-true, ltb-false, lt-leb, le-leb}
+use Rattle.sets.specs.Words.{bytes}
 use Rattle.rules.specs.Bytes.{Tables, bookIn}
 use Rattle.rules.specs.Sound.{S1, sound, maxUsers, maxResources, maxTokens, maxGroups}
 use Rattle.rules.specs.Refusals.{short, common, verdict}
@@ -49,19 +50,19 @@ none-of-five false false false false e = record { is = sym (and-true (not e)) }
 -- no table is short
 pub long-parts : (t : Tables)
     → Parts (not (short t))
-    (leb ((maxUsers + maxResources) * 8) (length (t .innerVertices))
+    (leb ((maxUsers + maxResources) * bytes) (length (t .innerVertices))
     ∷ leb (maxTokens * 5) (length (t .innerTokens))
-    ∷ leb ((maxUsers + maxGroups) * 8) (length (t .outerVertices))
+    ∷ leb ((maxUsers + maxGroups) * bytes) (length (t .outerVertices))
     ∷ leb (maxTokens * 4) (length (t .outerTokens))
-    ∷ leb (maxResources * 12) (length (t .resources))
+    ∷ leb (maxResources * (bytes + 4)) (length (t .resources))
     ∷ [])
 unfolding short
 long-parts t =
-    let iv = ltb (length (t .innerVertices)) ((maxUsers + maxResources) * 8) in
+    let iv = ltb (length (t .innerVertices)) ((maxUsers + maxResources) * bytes) in
     let it = ltb (length (t .innerTokens)) (maxTokens * 5) in
-    let ov = ltb (length (t .outerVertices)) ((maxUsers + maxGroups) * 8) in
+    let ov = ltb (length (t .outerVertices)) ((maxUsers + maxGroups) * bytes) in
     let ot = ltb (length (t .outerTokens)) (maxTokens * 4) in
-    let rs = ltb (length (t .resources)) (maxResources * 12) in
+    let rs = ltb (length (t .resources)) (maxResources * (bytes + 4)) in
     simp not-less at (none-of-five iv it ov ot rs)
 
 -- the answers x on the tables' lengths and y on the book; the check tests `!x` and `!y`

@@ -97,7 +97,7 @@ fn s2(h: Head, iv: &[u8], it: &[u8], ov: &[u8], ot: &[u8], rs: &[u8]) -> bool
     if !nothing(ownless(ov, o.vertices, h.users.0)) {
         return false;
     }
-    if !nothing(find_set(iv, i.vertices, Users(0))) {
+    if !nothing(find_set(iv, i.vertices, Users::empty())) {
         return false;
     }
     if !nothing(token_fault(it, iv, i, Rule::S2)) {

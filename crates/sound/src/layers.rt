@@ -1,6 +1,7 @@
 // The rules of a sound book that speak of one layer. Each function answers the first row that breaks its rule.
 use crate::marks::mark;
 use crate::marks::mark_of;
+use layer::holders::VERTICES;
 use layer::holders::unions;
 use layer::table::Found;
 use layer::table::find_set;
@@ -10,34 +11,24 @@ use layer::walk::Shape;
 use sets::User;
 use sets::Users;
 ghost use mathlib.Core.Path.{_≡_};
-ghost use mathlib.Core.Bool.{true, not};
+ghost use mathlib.Core.Bool.{not};
 ghost use Prim.Native.Nat.{_*_, _≤_, _<_};
 ghost use lib.ListN.{length};
+ghost use Rattle.sets.specs.Words.{people, bytes, setIn};
 ghost use Rattle.rules.specs.Lists.{first, upTo, numbered};
 ghost use Rattle.rules.specs.Bytes.{setsIn, tokensIn};
-ghost use Rattle.rules.specs.Sound.{joinedSet, unitedVertex, rising, lateral};
-ghost use Rattle.layer.specs.Laid.{Laid, layerOf, foundIn};
+ghost use Rattle.rules.specs.Sound.{joinedSet, unitedVertex};
+ghost use Rattle.layer.specs.Laid.{Laid, layerOf, maxVertices, foundIn};
 ghost use Rattle.sound.specs.Faults.{placedIn, hasOwnIn, keeps, keepsBy, Owners, repeated, again, unitedBy, Ends};
-
-// Whether a set names joined users only, where n have joined.
-pub fn joined(s: Users, n: u16) -> bool
-    requires { ⌜ n ≤ 64 ⌝ }
-    ensures { λ r. ⌜ r ≡ joinedSet n (s .0) ⌝ }
-{
-    if n == 64 {
-        return true;
-    }
-    s.0 >> n == 0
-}
 
 // S1: the first vertex whose set names someone who has not joined.
 pub fn strange_set(vertices: &[u8], n: usize, users: u16) -> Found
-    requires { ⌜ (n * 8 ≤ length (now vertices)) × (users ≤ 64) ⌝ }
+    requires { ⌜ (n * bytes ≤ length (now vertices)) × (users ≤ people) ⌝ }
     ensures { λ r. ⌜ r ≡ foundIn n (first (λ s. not (joinedSet users s)) (setsIn n (now (vertices .entry)))) ⌝ }
 {
     let mut i: usize = 0;
     while i < n {
-        if !joined(set_of(vertices, n, i), users) {
+        if !set_of(vertices, n, i).below(users) {
             return Found::At(i);
         }
         i += 1;
@@ -63,10 +54,10 @@ pub fn strange_token(tokens: &[u8], width: usize, n: usize, vertices: usize) -> 
 
 // The users who have a vertex of their own.
 fn owners(vertices: &[u8], n: usize) -> Users
-    requires { ⌜ n * 8 ≤ length (now vertices) ⌝ }
-    ensures { λ r. ⌜ Owners (setsIn n (now (vertices .entry))) (r .0) ⌝ }
+    requires { ⌜ n * bytes ≤ length (now vertices) ⌝ }
+    ensures { λ r. ⌜ Owners (setsIn n (now (vertices .entry))) (setIn r) ⌝ }
 {
-    let mut own = Users(0);
+    let mut own = Users::empty();
     let mut i: usize = 0;
     while i < n {
         let s = set_of(vertices, n, i);
@@ -80,7 +71,7 @@ fn owners(vertices: &[u8], n: usize) -> Users
 
 // S2: the first user without a vertex of their own.
 pub fn ownless(vertices: &[u8], n: usize, users: u16) -> Found
-    requires { ⌜ (n * 8 ≤ length (now vertices)) × (users ≤ 64) ⌝ }
+    requires { ⌜ (n * bytes ≤ length (now vertices)) × (users ≤ people) ⌝ }
     ensures { λ r. ⌜ r ≡ foundIn users (first (λ u. not (hasOwnIn (setsIn n (now (vertices .entry))) u)) (upTo users)) ⌝ }
 {
     let own = owners(vertices, n);
@@ -103,11 +94,11 @@ pub enum Rule {
 
 // Whether a token of this kind between these sets keeps a rule.
 fn holds(rule: Rule, kind: u8, from: Users, to: Users) -> bool
-    ensures { λ r. ⌜ r ≡ keepsBy rule kind (from .0) (to .0) ⌝ }
+    ensures { λ r. ⌜ r ≡ keepsBy rule kind (setIn from) (setIn to) ⌝ }
 {
     match rule {
         Rule::S2 => kind == 1 || to.size() != 1,
-        Rule::S4 => kind == 1 || (from.0 != 0 && from.inside(to)),
+        Rule::S4 => kind == 1 || (!from.same(Users::empty()) && from.inside(to)),
         Rule::S6 => kind == 0 || (from.size() == 1 && !from.within(to)),
     }
 }
@@ -132,7 +123,7 @@ pub fn token_fault(tokens: &[u8], vertices: &[u8], l: Shape, rule: Rule) -> Foun
 
 // S3: the first vertex whose set an earlier one has. Only a set whose mark was met before is searched for among the earlier ones.
 pub fn equal_set(vertices: &[u8], n: usize) -> Found
-    requires { ⌜ n * 8 ≤ length (now vertices) ⌝ }
+    requires { ⌜ n * bytes ≤ length (now vertices) ⌝ }
     ensures { λ r. ⌜ r ≡ foundIn n (first (repeated (setsIn n (now (vertices .entry)))) (upTo n)) ⌝ }
 {
     let mut met = [0u64; 256];
@@ -153,22 +144,22 @@ pub fn equal_set(vertices: &[u8], n: usize) -> Found
 
 // Whether a vertex with this set is a user's own, or the set is the union of its sources' sets.
 fn united(s: Users, all: Users) -> bool
-    ensures { λ r. ⌜ r ≡ unitedBy (s .0) (all .0) ⌝ }
+    ensures { λ r. ⌜ r ≡ unitedBy (setIn s) (setIn all) ⌝ }
 {
-    s.size() == 1 || s.0 == all.0
+    s.size() == 1 || s.same(all)
 }
 
 // S5: the first group vertex whose set is not the union of its sources' sets.
 pub fn ununited(tokens: &[u8], vertices: &[u8], l: Shape) -> Found
     requires { ⌜ Laid l (now tokens) (now vertices) ⌝ }
-    requires { ⌜ l .vertices ≤ 512 ⌝ }
+    requires { ⌜ l .vertices ≤ maxVertices ⌝ }
     ensures { λ r. ⌜ r ≡ foundIn (l .vertices) (first (λ v. not (unitedVertex (layerOf l (now (tokens .entry)) (now (vertices .entry))) v)) (numbered 0 (setsIn (l .vertices) (now (vertices .entry))))) ⌝ }
 {
     let all = unions(tokens, vertices, l, 0);
     let mut v: usize = 0;
     while v < l.vertices {
         let union = all[v];
-        if !united(set_of(vertices, l.vertices, v), Users(union)) {
+        if !united(set_of(vertices, l.vertices, v), union) {
             return Found::At(v);
         }
         v += 1;
@@ -179,14 +170,14 @@ pub fn ununited(tokens: &[u8], vertices: &[u8], l: Shape) -> Found
 // S6: the first token between two vertices that an earlier one is between. (Where S4 and S6's other half hold, such rows are equal.)
 pub fn equal_token(tokens: &[u8], width: usize, n: usize) -> Found
     requires { ⌜ (4 ≤ width) × (width ≤ 5) × (n * width ≤ length (now tokens)) ⌝ }
-    requires { ⌜ Ends 512 (tokensIn width n (now tokens)) ⌝ }
+    requires { ⌜ Ends maxVertices (tokensIn width n (now tokens)) ⌝ }
     ensures { λ r. ⌜ r ≡ foundIn n (first (again (tokensIn width n (now (tokens .entry)))) (upTo n)) ⌝ }
 {
     let mut met = [0u64; 4096];
     let mut i: usize = 0;
     while i < n {
         let t = token_in(tokens, width, n, i);
-        if mark(&mut met, t.to as usize * 512 + t.from as usize) {
+        if mark(&mut met, t.to as usize * VERTICES + t.from as usize) {
             return Found::At(i);
         }
         i += 1;

@@ -4,6 +4,7 @@ use mathlib.Core.Path.{_≡_, refl, sym}
 use native.Mathlib.Numerals.{add-one}
 use native.Mathlib.Omega.{arith}
 use lib.ListN.{getD}
+use Rattle.sets.specs.Words.{bytes}
 use Rattle.rules.specs.Bytes.{widths, counts, total, start}
 use Rattle.theorems.proofs.WriteLaws.{start-next, start-le}
 use Rattle.book.proofs.start_of.Statement.{statement}
@@ -20,8 +21,8 @@ next : (c : tie.After-count-of Inv-loop μ-loop)
     → c .before .before .loop .at + c .count-of .result * getD widths (c .before .before .loop .i) 0 ≡ start (c .before .before .before .args .h) (c .before .before .loop .i + 1)
 next c = rw (c .before .before .loop .inv .1, c .count-of .ensures, add-one) (sym (start-next (c .before .before .before .args .h) (c .before .before .loop .i)))
 
--- five counts of two bytes, and the widest row
-small : (c : tie.Start Inv-loop μ-loop) → start (c .args .h) 5 < 65536 * 64
+-- five counts of two bytes, and the five widths
+small : (c : tie.Start Inv-loop μ-loop) → start (c .args .h) 5 < 65536 * (3 * bytes + 13)
 unfolding start total counts
 small c = omega (arith, c .good .0)
 

@@ -2,7 +2,7 @@
 -- Assumes nothing.
 use borrow.Author.Needs.{needs}
 use Rattle.sound.proofs.Answers.{told, stop, on, last}
-use Rattle.sound.proofs.RuleParts.{s2-parts}
+use Rattle.sound.proofs.RuleParts.{empty-sought, s2-parts}
 use Rattle.sound.proofs.Required.{inner-held, outer-held, inner-laid, outer-laid, s1-within}
 use Rattle.sound.proofs.every.s2.Statement.{statement}
 use Rattle.sound.proofs.every.s2.Tie as tie
@@ -41,9 +41,12 @@ returns-2 c =
     let shapes = past1 .before .before .before in
     stop (s2-parts _ _ (shapes .before .inner-shape .ensures) (shapes .outer-shape .ensures)) 1 (told (c .before .nothing2 .ensures) (c .before .before .ownless2 .ensures)) (c .if2 .taken)
 
+empty-requires : tie.Need-empty-requires
+empty-requires c κs = search needs
+
 find-set-requires : tie.Need-find-set-requires
 find-set-requires c κs =
-    let past1 = c .before .before .before in
+    let past1 = c .before .before .before .before in
     let shapes = past1 .before .before .before in
     let start = shapes .before .before .before .before .before .before .before in
     inner-held _ _ (start .pre .0) (shapes .before .inner-shape .ensures) .sets
@@ -53,14 +56,15 @@ nothing-requires-3 c κs = search needs
 
 returns-3 : tie.Need-returns-3
 returns-3 c =
-    let past2 = c .before .before .before in
+    let past2 = c .before .before .before .before in
     let past1 = past2 .before .before .before in
     let shapes = past1 .before .before .before in
-    stop (s2-parts _ _ (shapes .before .inner-shape .ensures) (shapes .outer-shape .ensures)) 2 (told (c .before .nothing3 .ensures) (c .before .before .find-set .ensures)) (c .if3 .taken)
+    let start = shapes .before .before .before .before .before .before .before in
+    stop (s2-parts _ _ (shapes .before .inner-shape .ensures) (shapes .outer-shape .ensures)) 2 (told (c .before .nothing3 .ensures) (empty-sought (shapes .before .inner-shape .result .vertices) (start .args .iv .now) (c .before .before .find-set .ensures) (c .before .before .before .empty .ensures))) (c .if3 .taken)
 
 token-fault-requires : tie.Need-token-fault-requires
 token-fault-requires c κs =
-    let past2 = c .before .before .before in
+    let past2 = c .before .before .before .before in
     let past1 = past2 .before .before .before in
     let shapes = past1 .before .before .before in
     let start = shapes .before .before .before .before .before .before .before in
@@ -72,7 +76,7 @@ nothing-requires-4 c κs = search needs
 returns-4 : tie.Need-returns-4
 returns-4 c =
     let past3 = c .before .before .before in
-    let past2 = past3 .before .before .before in
+    let past2 = past3 .before .before .before .before in
     let past1 = past2 .before .before .before in
     let shapes = past1 .before .before .before in
     stop (s2-parts _ _ (shapes .before .inner-shape .ensures) (shapes .outer-shape .ensures)) 3 (told (c .before .nothing4 .ensures) (c .before .before .token-fault .ensures)) (c .if4 .taken)
@@ -80,7 +84,7 @@ returns-4 c =
 token-fault-requires-2 : tie.Need-token-fault-requires-2
 token-fault-requires-2 c κs =
     let past3 = c .before .before .before in
-    let past2 = past3 .before .before .before in
+    let past2 = past3 .before .before .before .before in
     let past1 = past2 .before .before .before in
     let shapes = past1 .before .before .before in
     let start = shapes .before .before .before .before .before .before .before in
@@ -93,9 +97,10 @@ returns-5 : tie.Need-returns-5
 returns-5 c =
     let past4 = c .before .before in
     let past3 = past4 .before .before .before in
-    let past2 = past3 .before .before .before in
+    let past2 = past3 .before .before .before .before in
     let past1 = past2 .before .before .before in
     let shapes = past1 .before .before .before in
+    let start = shapes .before .before .before .before .before .before .before in
     last
     (on
     (on
@@ -104,7 +109,7 @@ returns-5 c =
     (s2-parts _ _ (shapes .before .inner-shape .ensures) (shapes .outer-shape .ensures))
     (told (past1 .before .nothing .ensures) (past1 .before .before .ownless .ensures)) (past1 .if1 .left))
     (told (past2 .before .nothing2 .ensures) (past2 .before .before .ownless2 .ensures)) (past2 .if2 .left))
-    (told (past3 .before .nothing3 .ensures) (past3 .before .before .find-set .ensures)) (past3 .if3 .left))
+    (told (past3 .before .nothing3 .ensures) (empty-sought (shapes .before .inner-shape .result .vertices) (start .args .iv .now) (past3 .before .before .find-set .ensures) (past3 .before .before .before .empty .ensures))) (past3 .if3 .left))
     (told (past4 .before .nothing4 .ensures) (past4 .before .before .token-fault .ensures)) (past4 .if4 .left))
     (told (c .nothing5 .ensures) (c .before .token-fault2 .ensures))
 
@@ -120,6 +125,7 @@ s2-spec =
     ownless-requires-2
     nothing-requires-2
     returns-2
+    empty-requires
     find-set-requires
     nothing-requires-3
     returns-3
