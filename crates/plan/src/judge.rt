@@ -293,7 +293,8 @@ fn grant_plan(h: Head, iv: &[u8], it: &[u8], x: ResourceRow, u: User) -> Plan
             holders,
         };
     }
-    let free = holders.with(u).same(x.list.with(u));
+    let after = holders.with(u);
+    let free = after.same(x.list.with(u));
     Plan {
         free,
         token,
