@@ -265,16 +265,17 @@ module _ {h : Head} {ov ot rs list : List ℕ} (r s at : ℕ) {l : Shape} (room 
           omega (arith, p .tokens, room .tokens<),
         )
 
-    pub works-lock : {k : Head} (iv it : List ℕ) {rs' l2 : List ℕ} → Resources (h .resources .0) (locked r (m .vertex) (resourcesIn (h .resources .0) rs)) rs rs'
-        → l2 ≡ stored (m .at * 3) (orderOf 3 r (m .vertex)) l1 → k ≡ withOuter h (m .shape)
+    -- v is the vertex that the code re-locks r with
+    pub works-lock : {k : Head} {v : ℕ} (iv it : List ℕ) {rs' l2 : List ℕ} → Resources (h .resources .0) (locked r v (resourcesIn (h .resources .0) rs)) rs rs'
+        → l2 ≡ stored (m .at * 3) (orderOf 3 r v) l1 → v ≡ m .vertex → k ≡ withOuter h (m .shape)
         → let t = tables iv it ov ot rs in
         Works (lockWith r s (bookIn h t)) h t list at (step k (m .at + 1)) (tables iv it ov' ot' rs') l2
-    works-lock iv it {rs'} {l2} q o e =
+    works-lock {k} {v} iv it {rs'} {l2} q o is e =
         let t = tables iv it ov ot rs in
-        let v : m .vertex ≡ vertexFor (bookIn h t .outer) s = vertex-made .vertex ∙ ap (λ (L : Layer). vertexFor L s) (sym (outer-in h t)) in
+        let for : v ≡ vertexFor (bookIn h t .outer) s = is ∙ vertex-made .vertex ∙ ap (λ (L : Layer). vertexFor L s) (sym (outer-in h t)) in
         let one = works-outer h iv it ov ot rs ov' ot' list l1 at s m vertex-made in
-        let two = works-relock (withOuter h (m .shape)) iv it ov' ot' rs rs' l1 l2 (m .at) r (m .vertex) q o in
-        rw (e, ← v) (works-next (relock r (m .vertex)) (lock-room .0) one two)
+        let two = works-relock (withOuter h (m .shape)) iv it ov' ot' rs rs' l1 l2 (m .at) r v q o in
+        rw (e, ← for) (works-next (relock r v) (lock-room .0) one two)
 
 -- ---- from the work of a request to its call's change
 
