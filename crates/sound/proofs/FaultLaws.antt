@@ -9,7 +9,7 @@ use native.Mathlib.Numerals.{add-one}
 use lib.Dec.{eqb}
 use lib.ListN.{length, take, getD}
 use lib.Seq.{take-all, take-suc}
-use borrow.Author.Tests.{eqb-true, eq-eqb, ne-eqb}
+use borrow.Author.Tests.{not-true, not-false, eqb-true, eq-eqb, ne-eqb}
 use Rattle.sets.specs.Sets.{has, single, union, inside, size}
 use Rattle.sets.proofs.Laws.{has-empty, has-union, has-own, single-of-size, size-single}
 use Rattle.rules.specs.Lists.{first, some}
@@ -71,12 +71,16 @@ pub repeated-before : (n : ℕ) (vs : List ℕ) (i : ℕ) → i ≤ n → repeat
 unfolding repeated
 repeated-before n vs i h = ap (some (isSet (getD (setsIn n vs) i 0))) (sets-front n vs i h)
 
--- S4 of a token of kind k between the sets a and b, by the answer r at the last of its tests
-pub rises : (k a b : ℕ) {r : Bool} → (k ≡ 1 → ⊥) → eqb a 0 ≡ false → r ≡ inside a b → r ≡ keepsBy S4 k a b
-rises k a b n z e = rw (ne-eqb k 1 n, z) e
+-- S4 of a token of kind k between the sets a and b, by the answer x whether a is the empty set z, and then by the answer r at the last of its tests
+module _ (k a b : ℕ) {z : ℕ} {x : Bool} (n : k ≡ 1 → ⊥) (q : x ≡ eqb a z) (e : z ≡ 0) where
+  empty : x ≡ eqb a 0
+  empty = q ∙ ap (eqb a) e
 
-pub from-none : (k a b : ℕ) {r : Bool} → (k ≡ 1 → ⊥) → eqb a 0 ≡ true → r ≡ false → r ≡ keepsBy S4 k a b
-from-none k a b n z e = rw (ne-eqb k 1 n, z) e
+  pub rises : {r : Bool} → not x ≡ true → r ≡ inside a b → r ≡ keepsBy S4 k a b
+  rises y i = rw (ne-eqb k 1 n, ← empty, not-true x y) i
+
+  pub from-empty : not x ≡ false → not x ≡ keepsBy S4 k a b
+  from-empty y = rw (ne-eqb k 1 n, ← empty, not-false x y)
 
 -- S2, S4 and S6 of a token, by the answer r at the sets that were read at its ends
 pub keeps-read : (rule : Rule) (L : Layer) (t : Token) {a b : ℕ} {r : Bool} → a ≡ setOf L (t .from) → b ≡ setOf L (t .to) → r ≡ keepsBy rule (t .kind) a b
