@@ -12,10 +12,10 @@ use lib.ListN.{length, take, drop, getD, set, length-append, length-take, length
 use borrow.Author.Tests.{eq-eqb, ne-eqb, lt-ltb, le-ltb, ltb-false}
 use borrow.Rule.Slice.PartMut.{putMid}
 use Rattle.sets.specs.Sets.{has}
+use Rattle.sets.specs.Words.{people}
 use Rattle.rows.specs.Number.{stored}
 use Rattle.rows.proofs.Part.{stored-part}
 use Rattle.rows.proofs.Laws.{stored-add, stored-sets, length-stored}
-use Rattle.sets.specs.Words.{people}
 use Rattle.rules.specs.Layer.{Layer, setOf}
 use Rattle.rules.specs.Book.{Book, Resource, resource, hasOuter}
 use Rattle.rules.specs.Book as book

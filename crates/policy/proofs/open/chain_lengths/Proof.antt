@@ -32,4 +32,13 @@ returns c = let s = c .before .before .before .before .before .before .before .b
 
 pub chain-lengths-spec : {M : Type 1} → statement M
 chain-lengths-spec =
-    tie.close (tie.spec cast-resource-in cast-resource-in-2 resource-in-requires inner-shape-requires inner-length-requires outer-shape-requires outer-length-requires returns)
+    tie.close
+    (tie.spec
+    cast-resource-in
+    cast-resource-in-2
+    resource-in-requires
+    inner-shape-requires
+    inner-length-requires
+    outer-shape-requires
+    outer-length-requires
+    returns)

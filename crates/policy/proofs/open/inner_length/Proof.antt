@@ -27,4 +27,11 @@ returns-2 c = c .chain-length .ensures ∙ ap length (inner-chained _ _ _ (names
 
 pub inner-length-spec : {M : Type 1} → statement M
 inner-length-spec =
-    tie.close (tie.spec cast-set-of set-of-requires has-requires returns chain-length-requires returns-2)
+    tie.close
+    (tie.spec
+    cast-set-of
+    set-of-requires
+    has-requires
+    returns
+    chain-length-requires
+    returns-2)

@@ -62,4 +62,19 @@ returns-3 c = row-written _ _ _ (found c .1) (omega (arith, ap length (found c .
 
 pub inner-rows-spec : {M : Type 1} → statement M
 inner-rows-spec =
-    tie.close (tie.spec cast-set-of set-of-requires has-requires chain-rows-requires same-length returns find-direct-requires enum-known-row enum-told returns-2 cast-list slice-write-list same-length-2 returns-3)
+    tie.close
+    (tie.spec
+    cast-set-of
+    set-of-requires
+    has-requires
+    chain-rows-requires
+    same-length
+    returns
+    find-direct-requires
+    enum-known-row
+    enum-told
+    returns-2
+    cast-list
+    slice-write-list
+    same-length-2
+    returns-3)

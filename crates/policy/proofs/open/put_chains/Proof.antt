@@ -56,4 +56,18 @@ returns c = let s = c .before .before .before .before .before .before .before .b
 
 pub put-chains-spec : {M : Type 1} → statement M
 put-chains-spec =
-    tie.close (tie.spec cast-resource-in cast-resource-in-2 resource-in-requires inner-shape-requires inner-rows-requires outer-shape-requires mul-outer-rows sub-outer-rows part-outer-rows-start part-outer-rows-end outer-rows-requires same-length returns)
+    tie.close
+    (tie.spec
+    cast-resource-in
+    cast-resource-in-2
+    resource-in-requires
+    inner-shape-requires
+    inner-rows-requires
+    outer-shape-requires
+    mul-outer-rows
+    sub-outer-rows
+    part-outer-rows-start
+    part-outer-rows-end
+    outer-rows-requires
+    same-length
+    returns)

@@ -38,4 +38,15 @@ returns c = let s = c .before .before .before .before .before .before .before .b
 
 pub view-of-spec : {M : Type 1} → statement M
 view-of-spec =
-    tie.close (tie.spec cast-resource-in cast-resource-in-2 resource-in-requires inner-shape-requires all-holders-requires has-requires cast-outer-known outer-known-requires view-by-requires returns)
+    tie.close
+    (tie.spec
+    cast-resource-in
+    cast-resource-in-2
+    resource-in-requires
+    inner-shape-requires
+    all-holders-requires
+    has-requires
+    cast-outer-known
+    outer-known-requires
+    view-by-requires
+    returns)

@@ -65,4 +65,22 @@ returns-2 c = search needs
 
 pub carry-out-spec : {M : Type 1} → statement M
 carry-out-spec =
-    tie.close (tie.spec judge-requires enum-known-j enum-known-j-2 apply-requires same-length same-length-2 same-length-3 same-length-4 same-length-5 returns same-length-6 same-length-7 same-length-8 same-length-9 same-length-10 same-length-11 returns-2)
+    tie.close
+    (tie.spec
+    judge-requires
+    enum-known-j
+    enum-known-j-2
+    apply-requires
+    same-length
+    same-length-2
+    same-length-3
+    same-length-4
+    same-length-5
+    returns
+    same-length-6
+    same-length-7
+    same-length-8
+    same-length-9
+    same-length-10
+    same-length-11
+    returns-2)

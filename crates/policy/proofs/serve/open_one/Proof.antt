@@ -50,4 +50,15 @@ returns-2 c =
 
 pub open-one-spec : {M : Type 1} → statement M
 open-one-spec =
-    tie.close (tie.spec judge-open-requires enum-known-j refused-requires enum-known-j-2 put-shown-requires add-t19 cast-t20 returns same-length returns-2)
+    tie.close
+    (tie.spec
+    judge-open-requires
+    enum-known-j
+    refused-requires
+    enum-known-j-2
+    put-shown-requires
+    add-t19
+    cast-t20
+    returns
+    same-length
+    returns-2)

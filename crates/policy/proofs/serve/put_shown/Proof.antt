@@ -1,14 +1,15 @@
 -- `policy::serve::put_shown` meets its contract. Assumes nothing.
-use Prim.Native.Nat.{_+_, _≤_}
+use Prim.Native.Nat.{_+_, _*_, _-_, _≤_}
 use native.Mathlib.Omega.{arith}
 use borrow.Author.Needs.{needs}
+use Rattle.sets.specs.Words.{people}
 use Rattle.policy.proofs.OpenLaws.{few}
 use Rattle.policy.proofs.MarkedLaws.{chains-fit, list-long, inner-long, chains-put}
 use Rattle.policy.proofs.serve.put_shown.Statement.{statement}
 use Rattle.policy.proofs.serve.put_shown.Tie as tie
 
 -- the local list has a place for each row
-fits : (s : tie.Start) → s .args .k .inner + s .args .k .outer ≤ 126
+fits : (s : tie.Start) → s .args .k .inner + s .args .k .outer ≤ 2 * (people - 1)
 fits s = omega (arith, few _ _ _ _ _ _ _ _ (s .pre .0) (s .pre .1 .0))
 
 abbrev start : tie.After-put-chains → tie.Start
@@ -68,4 +69,18 @@ returns c =
 
 pub put-shown-spec : {M : Type 1} → statement M
 put-shown-spec =
-    tie.close (tie.spec slice-aggregate-put-chains put-chains-requires array-share-prefix-list slice-aggregate-put-marked put-marked-requires add-put-marked mul-put-marked sub-put-marked part-put-marked-start part-put-marked-end put-marked-requires-2 same-length returns)
+    tie.close
+    (tie.spec
+    slice-aggregate-put-chains
+    put-chains-requires
+    array-share-prefix-list
+    slice-aggregate-put-marked
+    put-marked-requires
+    add-put-marked
+    mul-put-marked
+    sub-put-marked
+    part-put-marked-start
+    part-put-marked-end
+    put-marked-requires-2
+    same-length
+    returns)

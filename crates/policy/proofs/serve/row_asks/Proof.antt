@@ -25,7 +25,7 @@ of-word-requires c κs = search needs
 
 returns-2 : tie.Need-returns-2
 unfolding narrow asked
-returns-2 c = let none-above = c .before in rw (none-above .before .if2 .taken, none-above .if3 .taken) (ap (λ (l : ℕ). changes (inserts l)) (c .of-word .ensures))
+returns-2 c = let insert = c .before in rw (insert .before .if2 .taken, insert .if3 .taken) (ap (λ (l : ℕ). changes (inserts l)) (c .of-word .ensures))
 
 returns-3 : tie.Need-returns-3
 unfolding narrow asked
@@ -51,4 +51,14 @@ returns-5 c =
 
 pub row-asks-spec : {M : Type 1} → statement M
 row-asks-spec =
-    tie.close (tie.spec returns of-word-requires returns-2 returns-3 returns-4 cast-pair-asks cast-pair-asks-2 pair-asks-requires returns-5)
+    tie.close
+    (tie.spec
+    returns
+    of-word-requires
+    returns-2
+    returns-3
+    returns-4
+    cast-pair-asks
+    cast-pair-asks-2
+    pair-asks-requires
+    returns-5)

@@ -81,4 +81,29 @@ returns-3 c = serve-served _ _ _ _ _ (checked-ready _ _ (c .before .before .befo
 
 pub serve-spec : {M : Type 1} → statement M
 serve-spec =
-    tie.close (tie.spec check-requires enum-known-k enum-told same-length same-length-2 same-length-3 same-length-4 same-length-5 returns serve-all-requires same-length-6 same-length-7 same-length-8 same-length-9 same-length-10 returns-2 same-length-11 same-length-12 same-length-13 same-length-14 same-length-15 same-length-16 same-length-17 returns-3)
+    tie.close
+    (tie.spec
+    check-requires
+    enum-known-k
+    enum-told
+    same-length
+    same-length-2
+    same-length-3
+    same-length-4
+    same-length-5
+    returns
+    serve-all-requires
+    same-length-6
+    same-length-7
+    same-length-8
+    same-length-9
+    same-length-10
+    returns-2
+    same-length-11
+    same-length-12
+    same-length-13
+    same-length-14
+    same-length-15
+    same-length-16
+    same-length-17
+    returns-3)

@@ -140,4 +140,38 @@ returns c = serving-last _ _ _ _ _ (c .before .loop .inv) (c .loop-test .left)
 
 pub serve-all-spec : {M : Type 1} → statement M
 serve-all-spec =
-    tie.close (tie.spec Inv-loop μ-loop loop-holds mul-at mul-row-asks shared-slice-read-row-asks add-row-asks mul-row-asks-2 shared-slice-read-row-asks-2 add-row-asks-2 mul-row-asks-3 shared-slice-read-row-asks-3 row-asks-requires mul-answer-one mul-answer-one-2 sub-answer-one part-answer-one-start part-answer-one-end answer-one-requires put-order-requires cast-used add-used add-i loop-less loop-again same-length same-length-2 same-length-3 same-length-4 same-length-5 same-length-6 same-length-7 returns)
+    tie.close
+    (tie.spec
+    Inv-loop
+    μ-loop
+    loop-holds
+    mul-at
+    mul-row-asks
+    shared-slice-read-row-asks
+    add-row-asks
+    mul-row-asks-2
+    shared-slice-read-row-asks-2
+    add-row-asks-2
+    mul-row-asks-3
+    shared-slice-read-row-asks-3
+    row-asks-requires
+    mul-answer-one
+    mul-answer-one-2
+    sub-answer-one
+    part-answer-one-start
+    part-answer-one-end
+    answer-one-requires
+    put-order-requires
+    cast-used
+    add-used
+    add-i
+    loop-less
+    loop-again
+    same-length
+    same-length-2
+    same-length-3
+    same-length-4
+    same-length-5
+    same-length-6
+    same-length-7
+    returns)
