@@ -7,6 +7,7 @@ use native.Mathlib.Nat.{mul-le-mul-right, add-sub-of-le, add-zero, zero-add, zer
 use native.Mathlib.Omega.{arith}
 use lib.ListN.{length, take, drop, getD, length-append, take-append-drop}
 use lib.Seq.{drop-drop, length-take-le}
+use Rattle.sets.specs.Words.{bytes}
 use Rattle.rows.specs.Number.{stored, joined}
 use Rattle.rows.proofs.Laws.{stored-add, stored-none, length-stored}
 use Rattle.rules.specs.Layer.{Layer, vertexFor, withVertex}
@@ -23,14 +24,13 @@ use Rattle.theorems.proofs.CountLaws.{newVertices-one, withVertex-vertices, wit
 use Rattle.theorems.proofs.ByteLaws.{TableBytes, head-in, sections-in, sound-room}
 use Rattle.theorems.proofs.RequestLaws.{accepted-long, work-sound}
 use Rattle.theorems.proofs.ServeLaws.{length-orders}
-use Rattle.layer.specs.Laid.{layerOf}
+use Rattle.layer.specs.Laid.{innerShape, outerShape, layerOf}
 use Rattle.layer.specs.Cover.{orderOf}
 use Rattle.layer.specs.Make.{Fits, VertexFor}
 use Rattle.layer.specs.declared.walk.Shape.{Shape}
 use Rattle.layer.specs.declared.make.Made.{Made}
 use Rattle.layer.proofs.Read.{length-resources, layer-sets, layer-tokens}
 use Rattle.write.specs.Write.{Resources, ResourceAdded, listed, locked}
-use Rattle.plan.specs.Judge.{innerShape, outerShape}
 use Rattle.apply.specs.Step.{withInner, withOuter}
 use Rattle.apply.specs.Apply.{Grown, Past, Rest, Works, lockWith, LockRoom, Accepted, applied}
 use Rattle.apply.specs.declared.step.Step.{Step}
@@ -58,6 +58,12 @@ past-then l p q =
 pub past-none : {n w : ℕ} {t : List ℕ} → Past n w t t
 past-none = record { rest = refl; same = refl }
 
+-- all five tables, one after the other
+abbrev pub rest : {h : Head} {t u : Tables} → Past (h .«inner_vertices» .0) bytes (t .innerVertices) (u .innerVertices)
+    → Past (h .«inner_tokens» .0) 5 (t .innerTokens) (u .innerTokens) → Past (h .«outer_vertices» .0) bytes (t .outerVertices) (u .outerVertices)
+    → Past (h .«outer_tokens» .0) 4 (t .outerTokens) (u .outerTokens) → Past (h .resources .0) (bytes + 4) (t .resources) (u .resources) → Rest h t u
+rest iv it ov ot rs = record { innerVertices = iv; innerTokens = it; outerVertices = ov; outerTokens = ot; resources = rs }
+
 pub grown-none : (h : Head) → Grown h h
 grown-none h = record { innerVertices = omega arith; innerTokens = omega arith; outerVertices = omega arith; outerTokens = omega arith; resources = omega arith }
 
@@ -67,7 +73,7 @@ works-none {h} {t} {list} {at} =
     record {
       book = refl;
       grown = grown-none h;
-      past = record { innerVertices = past-none; innerTokens = past-none; outerVertices = past-none; outerTokens = past-none; resources = past-none };
+      past = rest past-none past-none past-none past-none past-none;
       orders = sym (stored-none (at * 3) list);
       next = omega arith;
     }
@@ -84,13 +90,11 @@ works-then {d} f {h} {t} {u} {w} {list} {l1} {l2} {at} {s} {z} room p q =
       book = q .book;
       grown = record { innerVertices = omega arith; innerTokens = omega arith; outerVertices = omega arith; outerTokens = omega arith; resources = omega arith };
       past =
-          record {
-            innerVertices = past-then (k .innerVertices) (p .past .innerVertices) (q .past .innerVertices);
-            innerTokens = past-then (k .innerTokens) (p .past .innerTokens) (q .past .innerTokens);
-            outerVertices = past-then (k .outerVertices) (p .past .outerVertices) (q .past .outerVertices);
-            outerTokens = past-then (k .outerTokens) (p .past .outerTokens) (q .past .outerTokens);
-            resources = past-then (k .resources) (p .past .resources) (q .past .resources);
-          };
+          rest (past-then (k .innerVertices) (p .past .innerVertices) (q .past .innerVertices))
+          (past-then (k .innerTokens) (p .past .innerTokens) (q .past .innerTokens))
+          (past-then (k .outerVertices) (p .past .outerVertices) (q .past .outerVertices))
+          (past-then (k .outerTokens) (p .past .outerTokens) (q .past .outerTokens))
+          (past-then (k .resources) (p .past .resources) (q .past .resources));
       orders =
           q .orders
           ∙ ap (stored (s .at * 3) (orderRows (e .orders))) (p .orders)
@@ -123,14 +127,7 @@ works-rows h iv it ov ot rs rs' list l' at os p o =
     record {
       book = ap (withResources b) (p .rows);
       grown = grown-none h;
-      past =
-          record {
-            innerVertices = past-none;
-            innerTokens = past-none;
-            outerVertices = past-none;
-            outerTokens = past-none;
-            resources = record { rest = p .rest; same = p .same };
-          };
+      past = rest past-none past-none past-none past-none (record { rest = p .rest; same = p .same });
       orders = o;
       next = refl;
     }
@@ -148,7 +145,7 @@ record MadeIn (l k : Shape) (L : Layer) (ts vs ts' vs' : List ℕ) : Type 0 wher
   layer : layerOf (record { width = l .width; tokens = k .tokens; vertices = k .vertices }) ts' vs' ≡ L
   vertices≤ : l .vertices ≤ k .vertices
   tokens≤ : l .tokens ≤ k .tokens
-  vertices-past : Past (k .vertices) 8 vs vs'
+  vertices-past : Past (k .vertices) bytes vs vs'
   tokens-past : Past (k .tokens) (l .width) ts ts'
 
 made-in : (l : Shape) (s at kv kt : ℕ) (ts vs os : List ℕ) (m : Made) (ts' vs' os' : List ℕ) → VertexFor l s at kv kt ts vs os m ts' vs' os'
@@ -163,51 +160,38 @@ made-in l s at kv kt ts vs os m ts' vs' os' p =
       tokens-past = record { rest = p .tokens-rest; same = p .tokens-length };
     }
 
--- find or make the outer vertex for s
+-- find or make the vertex for s in a layer of shape l; k and u are the head and the tables with what that left in the layer's place
+works-vertex : {l : Shape} {s at kv kt : ℕ} {ts vs list : List ℕ} {m : Made} {ts' vs' l' : List ℕ} {d : Done} {h k : Head} {t u : Tables} → VertexFor l s at kv kt ts vs list m ts' vs' l'
+    → d .orders ≡ vertexOrders kv kt (layerOf l ts vs) s
+    → (MadeIn l (m .shape) (withVertex (layerOf l ts vs) s) ts vs ts' vs' → (bookIn k u ≡ d .book) × Grown h k × Rest k t u)
+    → Works d h t list at (step k (m .at)) u l'
+works-vertex {l} {s} {at} {kv} {kt} {ts} {vs} {list} {m} {ts'} {vs'} {l'} p os place =
+    let (book, grown, past) = place (made-in l s at kv kt ts vs list m ts' vs' l' p) in
+    record { book = book; grown = grown; past = past; orders = rw os (p .orders); next = rw os (p .next) }
+
+-- in the outer layer
 pub works-outer : (h : Head) (iv it ov ot rs ov' ot' list l' : List ℕ) (at s : ℕ) (m : Made) → VertexFor (outerShape h) s at 1 2 ot ov list m ot' ov' l'
     → let t = tables iv it ov ot rs in
     Works (outerVertex s (bookIn h t)) h t list at (step (withOuter h (m .shape)) (m .at)) (tables iv it ov' ot' rs) l'
 unfolding outerVertex done bookIn layerOf book.withOuter
 works-outer h iv it ov ot rs ov' ot' list l' at s m p =
-    let b = bookIn h (tables iv it ov ot rs) in
-    let made = made-in (outerShape h) s at 1 2 ot ov list m ot' ov' l' p in
-    record {
-      book = ap (book.withOuter b) (made .layer);
-      grown = record { innerVertices = omega arith; innerTokens = omega arith; outerVertices = made .vertices≤; outerTokens = made .tokens≤; resources = omega arith };
-      past =
-          record {
-            innerVertices = past-none;
-            innerTokens = past-none;
-            outerVertices = made .vertices-past;
-            outerTokens = made .tokens-past;
-            resources = past-none;
-          };
-      orders = p .orders;
-      next = p .next;
-    }
+    works-vertex p refl (λ made. (
+      ap (book.withOuter (bookIn h (tables iv it ov ot rs))) (made .layer),
+      record { innerVertices = omega arith; innerTokens = omega arith; outerVertices = made .vertices≤; outerTokens = made .tokens≤; resources = omega arith },
+      rest past-none past-none (made .vertices-past) (made .tokens-past) past-none,
+    ))
 
--- find or make the inner vertex for s
+-- in the inner layer
 pub works-inner : (h : Head) (iv it ov ot rs iv' it' list l' : List ℕ) (at s : ℕ) (m : Made) → VertexFor (innerShape h) s at 4 5 it iv list m it' iv' l'
     → let t = tables iv it ov ot rs in
     Works (innerVertex s (bookIn h t)) h t list at (step (withInner h (m .shape)) (m .at)) (tables iv' it' ov ot rs) l'
 unfolding innerVertex done bookIn layerOf book.withInner
 works-inner h iv it ov ot rs iv' it' list l' at s m p =
-    let b = bookIn h (tables iv it ov ot rs) in
-    let made = made-in (innerShape h) s at 4 5 it iv list m it' iv' l' p in
-    record {
-      book = ap (book.withInner b) (made .layer);
-      grown = record { innerVertices = made .vertices≤; innerTokens = made .tokens≤; outerVertices = omega arith; outerTokens = omega arith; resources = omega arith };
-      past =
-          record {
-            innerVertices = made .vertices-past;
-            innerTokens = made .tokens-past;
-            outerVertices = past-none;
-            outerTokens = past-none;
-            resources = past-none;
-          };
-      orders = p .orders;
-      next = p .next;
-    }
+    works-vertex p refl (λ made. (
+      ap (book.withInner (bookIn h (tables iv it ov ot rs))) (made .layer),
+      record { innerVertices = made .vertices≤; innerTokens = made .tokens≤; outerVertices = omega arith; outerTokens = omega arith; resources = omega arith },
+      rest (made .vertices-past) (made .tokens-past) past-none past-none past-none,
+    ))
 
 -- re-lock r with outer vertex v
 pub works-relock : (h : Head) (iv it ov ot rs rs' list l' : List ℕ) (at r v : ℕ) → Resources (h .resources .0) (locked r v (resourcesIn (h .resources .0) rs)) rs rs'
@@ -248,14 +232,7 @@ works-encrypt h iv it ov ot rs rs' list l' at l v p o =
     record {
       book = ap (withResources (bookIn h (tables iv it ov ot rs))) (p .rows);
       grown = record { innerVertices = omega arith; innerTokens = omega arith; outerVertices = omega arith; outerTokens = omega arith; resources = omega arith };
-      past =
-          record {
-            innerVertices = past-none;
-            innerTokens = past-none;
-            outerVertices = past-none;
-            outerTokens = past-none;
-            resources = record { rest = p .rest; same = p .same };
-          };
+      past = rest past-none past-none past-none past-none (record { rest = p .rest; same = p .same });
       orders = rw (length-resources (h .resources .0) rs) o;
       next = refl;
     }
@@ -288,16 +265,17 @@ module _ {h : Head} {ov ot rs list : List ℕ} (r s at : ℕ) {l : Shape} (room 
           omega (arith, p .tokens, room .tokens<),
         )
 
-    pub works-lock : {k : Head} (iv it : List ℕ) {rs' l2 : List ℕ} → Resources (h .resources .0) (locked r (m .vertex) (resourcesIn (h .resources .0) rs)) rs rs'
-        → l2 ≡ stored (m .at * 3) (orderOf 3 r (m .vertex)) l1 → k ≡ withOuter h (m .shape)
+    -- v is the vertex that the code re-locks r with
+    pub works-lock : {k : Head} {v : ℕ} (iv it : List ℕ) {rs' l2 : List ℕ} → Resources (h .resources .0) (locked r v (resourcesIn (h .resources .0) rs)) rs rs'
+        → l2 ≡ stored (m .at * 3) (orderOf 3 r v) l1 → v ≡ m .vertex → k ≡ withOuter h (m .shape)
         → let t = tables iv it ov ot rs in
         Works (lockWith r s (bookIn h t)) h t list at (step k (m .at + 1)) (tables iv it ov' ot' rs') l2
-    works-lock iv it {rs'} {l2} q o e =
+    works-lock {k} {v} iv it {rs'} {l2} q o is e =
         let t = tables iv it ov ot rs in
-        let v : m .vertex ≡ vertexFor (bookIn h t .outer) s = vertex-made .vertex ∙ ap (λ (L : Layer). vertexFor L s) (sym (outer-in h t)) in
+        let for : v ≡ vertexFor (bookIn h t .outer) s = is ∙ vertex-made .vertex ∙ ap (λ (L : Layer). vertexFor L s) (sym (outer-in h t)) in
         let one = works-outer h iv it ov ot rs ov' ot' list l1 at s m vertex-made in
-        let two = works-relock (withOuter h (m .shape)) iv it ov' ot' rs rs' l1 l2 (m .at) r (m .vertex) q o in
-        rw (e, ← v) (works-next (relock r (m .vertex)) (lock-room .0) one two)
+        let two = works-relock (withOuter h (m .shape)) iv it ov' ot' rs rs' l1 l2 (m .at) r v q o in
+        rw (e, ← for) (works-next (relock r v) (lock-room .0) one two)
 
 -- ---- from the work of a request to its call's change
 

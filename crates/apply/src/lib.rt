@@ -7,9 +7,9 @@ use layer::cover::put_order;
 use layer::make::vertex_for;
 use layer::table::put_set;
 use layer::table::resource_in;
+use layer::walk::inner_shape;
 use plan::Plan;
 use plan::Request;
-use plan::inner_shape;
 use rules::Head;
 use rules::InnerVertex;
 use rules::InnerVertices;
@@ -22,6 +22,7 @@ use sets::Users;
 use write::add_resource;
 use write::relist;
 ghost use mathlib.Core.Path.{_≡_};
+ghost use Rattle.sets.specs.Words.{setIn};
 ghost use Rattle.rules.specs.Bytes.{tables, bookIn};
 ghost use Rattle.rules.specs.Refusals.{joins, inserts, revokes};
 ghost use Rattle.rules.specs.Calls.{change};
@@ -77,9 +78,9 @@ pub fn apply_insert(
     l: Users,
     p: Plan,
 ) -> Applied
-    requires { ⌜ Accepted (inserts (l .0)) h (tables (now iv) (now it) (now ov) (now ot) (now rs)) (now orders) ⌝ }
-    requires { ⌜ p ≡ planOf (inserts (l .0)) (bookIn h (tables (now iv) (now it) (now ov) (now ot) (now rs))) ⌝ }
-    ensures { λ a. ⌜ applied a (tables (now (iv .exit)) (now (it .exit)) (now (ov .exit)) (now (ot .exit)) (now (rs .exit))) (now (orders .exit)) ≡ change (inserts (l .0)) h (tables (now (iv .entry)) (now (it .entry)) (now (ov .entry)) (now (ot .entry)) (now (rs .entry))) (now (orders .entry)) ⌝ }
+    requires { ⌜ Accepted (inserts (setIn l)) h (tables (now iv) (now it) (now ov) (now ot) (now rs)) (now orders) ⌝ }
+    requires { ⌜ p ≡ planOf (inserts (setIn l)) (bookIn h (tables (now iv) (now it) (now ov) (now ot) (now rs))) ⌝ }
+    ensures { λ a. ⌜ applied a (tables (now (iv .exit)) (now (it .exit)) (now (ov .exit)) (now (ot .exit)) (now (rs .exit))) (now (orders .exit)) ≡ change (inserts (setIn l)) h (tables (now (iv .entry)) (now (it .entry)) (now (ov .entry)) (now (ot .entry)) (now (rs .entry))) (now (orders .entry)) ⌝ }
 {
     let m = vertex_for(iv, it, inner_shape(h), l, orders, 0, 4, 5);
     let n = h.resources.0;
@@ -93,7 +94,7 @@ pub fn apply_insert(
             count: (m.at + 1) as u16,
         };
     }
-    let a = lock_with(head, ov, ot, rs, orders, m.at + 1, n, l);
+    let a = lock_with(head, ov, ot, rs, orders, m.at + 1, Resource(n), l);
     let after = a.head;
     Applied {
         head: after,
@@ -118,8 +119,8 @@ pub fn apply_revoke(
     let n = h.resources.0 as usize;
     let x = resource_in(rs, n, r.0 as usize);
     let list = x.list.without(u);
-    relist(rs, n, r.0, list);
-    let a = lock_with(h, ov, ot, rs, orders, 0, r.0, list);
+    relist(rs, n, r, list);
+    let a = lock_with(h, ov, ot, rs, orders, 0, r, list);
     let head = a.head;
     Applied {
         head,

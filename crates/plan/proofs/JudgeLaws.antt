@@ -15,7 +15,7 @@ use Rattle.rules.specs.Layer.{Layer, found, vertexFor, cover, withVertex}
 use Rattle.rules.specs.Book.{Book, Resource, resource, hasOuter}
 use Rattle.rules.specs.Book as book
 use Rattle.rules.specs.Holders.{holders, holdersOf}
-use Rattle.rules.specs.Sound.{sound}
+use Rattle.rules.specs.Sound.{sound, maxUsers}
 use Rattle.rules.specs.Requests.{Done, done, join, withSet, insert}
 use Rattle.rules.specs.Bytes.{tables, bookIn, resourcesIn}
 use Rattle.rules.specs.Refusals.{Request, joins, inserts, grants, revokes, verdict, noSuch, own, limits, work}
@@ -29,7 +29,7 @@ use Rattle.theorems.proofs.AccessLaws.{users-of, work-access}
 use Rattle.theorems.proofs.CountLaws.{withVertex-vertices, withVertex-tokens}
 use Rattle.theorems.proofs.NeighbourLaws.{none-waits, none-waits-full}
 use Rattle.theorems.proofs.PlanLaws.{insertAgrees, insert-inner, insert-outer, insert-orders, insert-agrees, revoke-outer, revoke-inner, revoke-orders, grant-vertices, grant-tokens, grant-inner-tokens, grant-orders}
-use Rattle.layer.specs.Laid.{layerOf, noResource}
+use Rattle.layer.specs.Laid.{innerShape, layerOf, noResource}
 use Rattle.layer.specs.Make.{setsOnly}
 use Rattle.layer.specs.declared.make.New.{New}
 use Rattle.plan.specs.declared.Plan.{Plan}
@@ -37,8 +37,8 @@ use Rattle.plan.specs.declared.Judged.{Judged}
 use Rattle.plan.specs.declared.Judged.the-variants.{Go, No}
 use Rattle.plan.specs.declared.judge.After.{After}
 use Rattle.plan.specs.declared.judge.Part.{Part}
-use Rattle.plan.specs.Waiting.{waitsIn, waitersIn}
-use Rattle.plan.specs.Judge.{Ready, plan, planOf, judgedBy, judged, limited, holdersAre, innerShape, part, lockPart, settledPart, groupPart, joint, afterOf, waitersOf, grantPart, grantPlan}
+use Rattle.plan.specs.Waiting.{waitsIn, waitersIn, waitersOf}
+use Rattle.plan.specs.Judge.{Ready, plan, planOf, judgedBy, judged, limited, holdersAre, part, lockPart, settledPart, groupPart, joint, afterOf, grantPart, grantPlan}
 use Rattle.plan.proofs.ReadyLaws.{bookOf, Sizes, sizes, users-count, mode-count, resources-count, outer-count, inner-tokens-count, outer-tokens-count, inner-new, row-read, such-told}
 
 -- ---- the verdict
@@ -219,14 +219,14 @@ module _ (h : Head) (iv it ov ot rs : List ℕ) where
     -- ---- each request, with the callees' answers as premises
 
     module _ (room : ℕ) where
-      pub insert-judged : (l : ℕ) {free : Bool} {i : New} {s : Part} {a : After} {j : Judged} → l < 2 ^ h .users .0 → (l ≡ 0 → ⊥) → h .resources .0 < 256
+      pub insert-judged : (l : ℕ) {free : Bool} {i : New} {s : Part} {a : After} {p : Plan} {j : Judged} → l < 2 ^ h .users .0 → (l ≡ 0 → ⊥) → h .resources .0 < 256
           → free ≡ (eqb (h .mode .0) 1 && holdersAre (layerOf (innerShape h) it iv) l)
           → i .vertices ≡ newVertices (setsOnly (h .«inner_vertices» .0) iv) l → i .tokens ≡ newTokens (setsOnly (h .«inner_vertices» .0) iv) l
           → s ≡ settledPart free book.none sets l
           → a ≡ afterOf h (i .tokens) (i .vertices + i .tokens + 1) s
-          → j ≡ limited a room (plan free false 0) → j ≡ judged (inserts l) b room
-      insert-judged l {free} {i} {s} {a} lb some′ few ef ev et es ea ej =
-          ej ∙ judged-limited (inserts l) b room a (plan free false 0) passed (subst (Leaves (work (inserts l) b)) (sym after) (insert-leaves l lb)) planned
+          → p ≡ plan free false 0 → j ≡ limited a room p → j ≡ judged (inserts l) b room
+      insert-judged l {free} {i} {s} {a} {p} lb some′ few ef ev et es ea ep ej =
+          ej ∙ judged-limited (inserts l) b room a p passed (subst (Leaves (work (inserts l) b)) (sym after) (insert-leaves l lb)) planned
         where
           is-free : free ≡ insertFree l b
           is-free = ef ∙ free-in l
@@ -234,8 +234,8 @@ module _ (h : Head) (iv it ov ot rs : List ℕ) where
           passed : verdict (own (inserts l) b) ≡ none
           passed = insert-passed l lb some′ few
 
-          planned : plan free false 0 ≡ planOf (inserts l) b
-          planned = ap (λ (z : Bool). plan z false 0) is-free ∙ insert-plan-is l
+          planned : p ≡ planOf (inserts l) b
+          planned = ep ∙ ap (λ (z : Bool). plan z false 0) is-free ∙ insert-plan-is l
 
           after : a ≡ afterOf h (newTokens (b .inner) l) (newVertices (b .inner) l + newTokens (b .inner) l + 1) (settledPart (insertFree l b) book.none (b .outer) l)
           after = ea ∙ rw (es, ev, et, is-free, inner-new h iv it ov ot rs l .0, inner-new h iv it ov ot rs l .1, settled-in (insertFree l b) book.none l)
@@ -255,29 +255,29 @@ module _ (h : Head) (iv it ov ot rs : List ℕ) where
           (rw (users-count h iv it ov ot rs, resources-count h iv it ov ot rs, e, ne-eqb l 0 n, le-leb 256 (h .resources .0) m))
 
       -- after a join of a sound book 7, 8 and 9 never hold
-      join-verdict : h .users .0 < 64 → verdict (own joins b ++ limits room (work joins b)) ≡ cond (ltb room 2) (some ShortList) none
+      join-verdict : h .users .0 < maxUsers → verdict (own joins b ++ limits room (work joins b)) ≡ cond (ltb room 2) (some ShortList) none
       unfolding own limits work join withSet done verdict
       join-verdict few =
           let c : Sizes h (tables iv it ov ot rs) = sizes h iv it ov ot rs ready in
           rw (
-            lt-leb 64 (b .users) (omega (arith, users-count h iv it ov ot rs)),
+            lt-leb maxUsers (b .users) (omega (arith, users-count h iv it ov ot rs)),
             le-ltb (suc (b .users) + 448) (length (b .outer .sets ++ (single (b .users) ∷ [])))
                 (omega (arith, users-count h iv it ov ot rs, outer-count h iv it ov ot rs, length-append (b .outer .sets) (single (b .users) ∷ []))),
             le-ltb 4096 (length (b .inner .tokens)) (omega (arith, inner-tokens-count h iv it ov ot rs)),
             le-ltb 4096 (length (b .outer .tokens)) (omega (arith, outer-tokens-count h iv it ov ot rs)),
           )
 
-      pub join-full : 64 ≤ h .users .0 → No UsersFull ≡ judged joins b room
+      pub join-full : maxUsers ≤ h .users .0 → No UsersFull ≡ judged joins b room
       unfolding own verdict
-      join-full m = judged-no joins b room (rw (users-count h iv it ov ot rs, le-leb 64 (h .users .0) m))
+      join-full m = judged-no joins b room (rw (users-count h iv it ov ot rs, le-leb maxUsers (h .users .0) m))
 
-      pub join-short : h .users .0 < 64 → room < 2 → No ShortList ≡ judged joins b room
+      pub join-short : h .users .0 < maxUsers → room < 2 → No ShortList ≡ judged joins b room
       unfolding judged judgedBy
       join-short few m = rw (join-verdict few, lt-ltb room 2 m)
 
-      pub join-judged : h .users .0 < 64 → 2 ≤ room → Go (plan false false 0) ≡ judged joins b room
+      pub join-judged : h .users .0 < maxUsers → 2 ≤ room → {p : Plan} → p ≡ plan false false 0 → Go p ≡ judged joins b room
       unfolding judged judgedBy planOf
-      join-judged few m = rw (join-verdict few, le-ltb room 2 m)
+      join-judged few m e = rw (join-verdict few, le-ltb room 2 m) (ap Go e)
 
       -- grant and revoke: z and y are the code's tests for 1 and for 5 and 6, x the row that was read
       module _ (r u : ℕ) {z : Bool} (ez : z ≡ not (ltb u (h .users .0) && ltb r (h .resources .0))) where
@@ -315,13 +315,13 @@ module _ (h : Head) (iv it ov ot rs : List ℕ) where
           unfolding own verdict
           revoke-passed e = rw (exists, test e)
 
-          pub revoke-judged : {l : ℕ} {s : Part} {a : After} {j : Judged} → y ≡ true → l ≡ minus (x .list) (single u) → s ≡ lockPart sets l 1 → a ≡ afterOf h 0 0 s
-              → j ≡ limited a room (plan false false 0) → j ≡ judged (revokes r u) b room
+          pub revoke-judged : {l : ℕ} {s : Part} {a : After} {p : Plan} {j : Judged} → y ≡ true → l ≡ minus (x .list) (single u) → s ≡ lockPart sets l 1 → a ≡ afterOf h 0 0 s
+              → p ≡ plan false false 0 → j ≡ limited a room p → j ≡ judged (revokes r u) b room
           unfolding planOf
-          revoke-judged {l} {s} {a} e el es ea ej =
+          revoke-judged {l} {s} {a} {p} e el es ea ep ej =
               ej
-              ∙ judged-limited (revokes r u) b room a (plan false false 0) (revoke-passed e)
-              (subst (Leaves (work (revokes r u) b)) (sym after) (revoke-leaves r u (such b u r exists .1) (test e))) refl
+              ∙ judged-limited (revokes r u) b room a p (revoke-passed e)
+              (subst (Leaves (work (revokes r u) b)) (sym after) (revoke-leaves r u (such b u r exists .1) (test e))) ep
             where
               after : a ≡ afterOf h 0 0 (lockPart (b .outer) (revokedList r u b) 1)
               after = ea ∙ ap (afterOf h 0 0) (es ∙ lock-in l 1 ∙ ap (λ (k : ℕ). lockPart (b .outer) k 1) (el ∙ ap (λ (w : Resource). minus (w .list) (single u)) row))

@@ -3,14 +3,14 @@
 use crate::Judged;
 use crate::Plan;
 use crate::Request;
-use crate::inner_shape;
-use crate::waiting::count_waiting;
+use crate::waiting::waiting;
 use layer::holders::holders_of;
 use layer::make::new_rows;
 use layer::table::Found;
 use layer::table::find_set;
 use layer::table::resource_in;
 use layer::walk::Shape;
+use layer::walk::inner_shape;
 use rules::Head;
 use rules::InnerTokens;
 use rules::InnerVertex;
@@ -25,16 +25,17 @@ use rules::Resources;
 use sets::User;
 use sets::Users;
 ghost use mathlib.Core.Path.{_≡_};
-ghost use mathlib.Core.Bool.{_&&_, not, cond};
+ghost use mathlib.Core.Bool.{false, _&&_, not, cond};
 ghost use Prim.Native.Nat.{_+_, _*_, _≤_, _<_};
 ghost use lib.Dec.{eqb, ltb};
 ghost use lib.ListN.{length};
+ghost use Rattle.sets.specs.Words.{people, bytes, setIn};
 ghost use Rattle.rules.specs.Bytes.{tables, bookIn};
 ghost use Rattle.rules.specs.Holders.{holders};
 ghost use Rattle.rules.specs.Refusals.{joins, inserts, grants, revokes};
-ghost use Rattle.layer.specs.Laid.{Laid, layerOf, resourceIs};
+ghost use Rattle.layer.specs.Laid.{Laid, innerShape, layerOf, resourceIs};
 ghost use Rattle.layer.specs.Make.{setsOnly};
-ghost use Rattle.plan.specs.Judge.{Ready, requestOf, judged, limited, holdersAre, innerShape, Few, lockPart, settledPart, groupPart, joint, afterOf, waitersOf, grantPart, grantPlan};
+ghost use Rattle.plan.specs.Judge.{Ready, requestOf, plan, judged, limited, holdersAre, Few, lockPart, settledPart, groupPart, joint, afterOf, grantPart, grantPlan};
 
 // The rows that a request would leave, and the orders it would give.
 pub struct After {
@@ -54,7 +55,7 @@ pub struct Part {
 
 // 7, 8, 9 and 10, in this order; else the plan.
 fn limits(a: After, room: usize, p: Plan) -> Judged
-    requires { ⌜ a .users ≤ 64 ⌝ }
+    requires { ⌜ a .users ≤ people ⌝ }
     ensures { λ r. ⌜ r ≡ limited a room p ⌝ }
 {
     if a.outer_vertices > a.users + OuterVertices::GROUPS as usize {
@@ -72,9 +73,20 @@ fn limits(a: After, room: usize, p: Plan) -> Judged
     Judged::Go(p)
 }
 
+// The plan of a request that adds no kind 1 token.
+fn plain(free: bool) -> Plan
+    ensures { λ r. ⌜ r ≡ plan free false 0 ⌝ }
+{
+    Plan {
+        free,
+        token: false,
+        holders: Users::empty(),
+    }
+}
+
 // What is left, with so many inner tokens more, their orders and those of the outer part.
 fn rows_after(h: Head, tokens: usize, orders: usize, p: Part) -> After
-    requires { ⌜ (tokens ≤ 64) × (orders ≤ 66) × Few p ⌝ }
+    requires { ⌜ (tokens ≤ people) × (orders ≤ people + 2) × Few p ⌝ }
     ensures { λ r. ⌜ r ≡ afterOf h tokens orders p ⌝ }
 {
     After {
@@ -100,9 +112,9 @@ pub fn no_such(h: Head, r: Resource, u: User) -> bool
 
 // The vertex for a list, and n re-locks with it.
 fn lock_rows(h: Head, ov: &[u8], list: Users, n: usize) -> Part
-    requires { ⌜ (h .«outer_vertices» .0 * 8 ≤ length (now ov)) × (n < 65536) ⌝ }
-    ensures { λ r. ⌜ r ≡ lockPart (setsOnly (h .«outer_vertices» .0) (now (ov .entry))) (list .0) n ⌝ }
-    ensures { λ r. ⌜ (r .vertices ≤ 1) × (r .tokens ≤ 64) × (r .orders ≤ 65 + n) ⌝ }
+    requires { ⌜ (h .«outer_vertices» .0 * bytes ≤ length (now ov)) × (n < 65536) ⌝ }
+    ensures { λ r. ⌜ r ≡ lockPart (setsOnly (h .«outer_vertices» .0) (now (ov .entry))) (setIn list) n ⌝ }
+    ensures { λ r. ⌜ (r .vertices ≤ 1) × (r .tokens ≤ people) × (r .orders ≤ people + 1 + n) ⌝ }
 {
     let o = new_rows(ov, h.outer_vertices.0 as usize, list);
     Part {
@@ -114,9 +126,9 @@ fn lock_rows(h: Head, ov: &[u8], list: Users, n: usize) -> Part
 
 // The folder itself: its outer key taken off, or a lock for the list.
 fn settled(h: Head, ov: &[u8], free: bool, outer: OuterVertex, list: Users) -> Part
-    requires { ⌜ h .«outer_vertices» .0 * 8 ≤ length (now ov) ⌝ }
-    ensures { λ r. ⌜ r ≡ settledPart free (outer .0) (setsOnly (h .«outer_vertices» .0) (now (ov .entry))) (list .0) ⌝ }
-    ensures { λ r. ⌜ (r .vertices ≤ 1) × (r .tokens ≤ 64) × (r .orders ≤ 66) ⌝ }
+    requires { ⌜ h .«outer_vertices» .0 * bytes ≤ length (now ov) ⌝ }
+    ensures { λ r. ⌜ r ≡ settledPart free (outer .0) (setsOnly (h .«outer_vertices» .0) (now (ov .entry))) (setIn list) ⌝ }
+    ensures { λ r. ⌜ (r .vertices ≤ 1) × (r .tokens ≤ people) × (r .orders ≤ people + 2) ⌝ }
 {
     if !free {
         return lock_rows(h, ov, list, 1);
@@ -132,25 +144,10 @@ fn settled(h: Head, ov: &[u8], free: bool, outer: OuterVertex, list: Users) -> P
     }
 }
 
-// How many neighbours a grant has to lock: in delta mode, where u comes in, those whose list is the old holders.
-fn waiting(h: Head, rs: &[u8], r: Resource, inner: InnerVertex, p: Plan) -> usize
-    requires { ⌜ h .resources .0 * 12 ≤ length (now rs) ⌝ }
-    ensures { λ k. ⌜ k ≡ length (waitersOf h (now (rs .entry)) (r .0) (inner .0) p) ⌝ }
-    ensures { λ k. ⌜ k < 65536 ⌝ }
-{
-    if h.mode.0 != 1 {
-        return 0;
-    }
-    if !p.token {
-        return 0;
-    }
-    count_waiting(rs, h.resources.0 as usize, r.0, inner, p.holders)
-}
-
 // The neighbours' part, one vertex for the old holders where n of them wait, and the folder's.
 fn with_neighbours(h: Head, ov: &[u8], n: usize, holders: Users, s: Part) -> Part
-    requires { ⌜ (h .«outer_vertices» .0 * 8 ≤ length (now ov)) × (n < 65536) × (s .vertices ≤ 1) × (s .tokens ≤ 64) × (s .orders ≤ 66) ⌝ }
-    ensures { λ r. ⌜ r ≡ joint (groupPart n (setsOnly (h .«outer_vertices» .0) (now (ov .entry))) (holders .0)) s ⌝ }
+    requires { ⌜ (h .«outer_vertices» .0 * bytes ≤ length (now ov)) × (n < 65536) × (s .vertices ≤ 1) × (s .tokens ≤ people) × (s .orders ≤ people + 2) ⌝ }
+    ensures { λ r. ⌜ r ≡ joint (groupPart n (setsOnly (h .«outer_vertices» .0) (now (ov .entry))) (setIn holders)) s ⌝ }
     ensures { λ r. ⌜ Few r ⌝ }
 {
     if n == 0 {
@@ -184,22 +181,18 @@ pub fn judge_join(
     if room < 2 {
         return Judged::No(Refusal::ShortList);
     }
-    Judged::Go(Plan {
-        free: false,
-        token: false,
-        holders: Users(0),
-    })
+    Judged::Go(plain(false))
 }
 
 // ---- insert
 
 // The holders of inner vertex v.
-pub fn all_holders(iv: &[u8], it: &[u8], i: Shape, v: u16) -> Users
+pub fn all_holders(iv: &[u8], it: &[u8], i: Shape, v: InnerVertex) -> Users
     requires { ⌜ Laid i (now it) (now iv) ⌝ }
-    requires { ⌜ v < i .vertices ⌝ }
-    ensures { λ r. ⌜ r .0 ≡ holders (layerOf i (now (it .entry)) (now (iv .entry))) v ⌝ }
+    requires { ⌜ v .0 < i .vertices ⌝ }
+    ensures { λ r. ⌜ setIn r ≡ holders (layerOf i (now (it .entry)) (now (iv .entry))) (v .0) ⌝ }
 {
-    let k = holders_of(it, iv, i, v);
+    let k = holders_of(it, iv, i, v.0);
     k.start.union(k.token)
 }
 
@@ -207,11 +200,11 @@ pub fn all_holders(iv: &[u8], it: &[u8], i: Shape, v: u16) -> Users
 fn holders_are(iv: &[u8], it: &[u8], i: Shape, l: Users) -> bool
     requires { ⌜ Laid i (now it) (now iv) ⌝ }
     requires { ⌜ i .vertices < 65536 ⌝ }
-    ensures { λ r. ⌜ r ≡ holdersAre (layerOf i (now (it .entry)) (now (iv .entry))) (l .0) ⌝ }
+    ensures { λ r. ⌜ r ≡ holdersAre (layerOf i (now (it .entry)) (now (iv .entry))) (setIn l) ⌝ }
 {
     let found = find_set(iv, i.vertices, l);
     match found {
-        Found::At(v) => all_holders(iv, it, i, v as u16).0 == l.0,
+        Found::At(v) => all_holders(iv, it, i, InnerVertex(v as u16)).same(l),
         Found::Nothing => true,
     }
 }
@@ -219,7 +212,7 @@ fn holders_are(iv: &[u8], it: &[u8], i: Shape, l: Users) -> bool
 // Whether a folder with list l will have no outer key.
 fn insert_free(h: Head, iv: &[u8], it: &[u8], l: Users) -> bool
     requires { ⌜ Laid (innerShape h) (now it) (now iv) ⌝ }
-    ensures { λ r. ⌜ r ≡ (eqb (h .mode .0) 1 && holdersAre (layerOf (innerShape h) (now (it .entry)) (now (iv .entry))) (l .0)) ⌝ }
+    ensures { λ r. ⌜ r ≡ (eqb (h .mode .0) 1 && holdersAre (layerOf (innerShape h) (now (it .entry)) (now (iv .entry))) (setIn l)) ⌝ }
 {
     if h.mode.0 != 1 {
         return false;
@@ -238,12 +231,12 @@ pub fn judge_insert(
     room: usize,
 ) -> Judged
     requires { ⌜ Ready h (tables (now iv) (now it) (now ov) (now ot) (now rs)) ⌝ }
-    ensures { λ r. ⌜ r ≡ judged (inserts (l .0)) (bookIn h (tables (now (iv .entry)) (now (it .entry)) (now (ov .entry)) (now (ot .entry)) (now (rs .entry)))) room ⌝ }
+    ensures { λ r. ⌜ r ≡ judged (inserts (setIn l)) (bookIn h (tables (now (iv .entry)) (now (it .entry)) (now (ov .entry)) (now (ot .entry)) (now (rs .entry)))) room ⌝ }
 {
     if !l.below(h.users.0) {
         return Judged::No(Refusal::NoSuch);
     }
-    if l.0 == 0 {
+    if l.same(Users::empty()) {
         return Judged::No(Refusal::EmptyList);
     }
     if h.resources.0 >= Resources::LIMIT {
@@ -253,15 +246,7 @@ pub fn judge_insert(
     let i = new_rows(iv, h.inner_vertices.0 as usize, l);
     let s = settled(h, ov, free, OuterVertex(OuterVertex::NONE), l);
     let a = rows_after(h, i.tokens, i.vertices + i.tokens + 1, s);
-    limits(
-        a,
-        room,
-        Plan {
-            free,
-            token: false,
-            holders: Users(0),
-        },
-    )
+    limits(a, room, plain(free))
 }
 
 // ---- revoke
@@ -288,15 +273,7 @@ pub fn judge_revoke(
         return Judged::No(Refusal::NotListed);
     }
     let s = lock_rows(h, ov, x.list.without(u), 1);
-    limits(
-        rows_after(h, 0, 0, s),
-        room,
-        Plan {
-            free: false,
-            token: false,
-            holders: Users(0),
-        },
-    )
+    limits(rows_after(h, 0, 0, s), room, plain(false))
 }
 
 // ---- grant
@@ -304,10 +281,10 @@ pub fn judge_revoke(
 // Whether the holders will be the list, whether u comes in, and the holders before.
 fn grant_plan(h: Head, iv: &[u8], it: &[u8], x: ResourceRow, u: User) -> Plan
     requires { ⌜ Laid (innerShape h) (now it) (now iv) ⌝ }
-    requires { ⌜ (x .inner .0 < h .«inner_vertices» .0) × (u .0 < 64) ⌝ }
-    ensures { λ r. ⌜ r ≡ grantPlan (h .mode .0) (holders (layerOf (innerShape h) (now (it .entry)) (now (iv .entry))) (x .inner .0)) (x .list .0) (u .0) ⌝ }
+    requires { ⌜ (x .inner .0 < h .«inner_vertices» .0) × (u .0 < people) ⌝ }
+    ensures { λ r. ⌜ r ≡ grantPlan (h .mode .0) (holders (layerOf (innerShape h) (now (it .entry)) (now (iv .entry))) (x .inner .0)) (setIn (x .list)) (u .0) ⌝ }
 {
-    let holders = all_holders(iv, it, inner_shape(h), x.inner.0);
+    let holders = all_holders(iv, it, inner_shape(h), x.inner);
     let token = !holders.has(u);
     if h.mode.0 != 1 {
         return Plan {
@@ -316,7 +293,8 @@ fn grant_plan(h: Head, iv: &[u8], it: &[u8], x: ResourceRow, u: User) -> Plan
             holders,
         };
     }
-    let free = holders.with(u).0 == x.list.with(u).0;
+    let after = holders.with(u);
+    let free = after.same(x.list.with(u));
     Plan {
         free,
         token,
@@ -326,7 +304,7 @@ fn grant_plan(h: Head, iv: &[u8], it: &[u8], x: ResourceRow, u: User) -> Plan
 
 // The outer part of a grant: the neighbours, then the folder with its new list.
 fn grant_part(h: Head, ov: &[u8], rs: &[u8], r: Resource, u: User, x: ResourceRow, p: Plan) -> Part
-    requires { ⌜ (h .«outer_vertices» .0 * 8 ≤ length (now ov)) × (h .resources .0 * 12 ≤ length (now rs)) × (u .0 < 64) ⌝ }
+    requires { ⌜ (h .«outer_vertices» .0 * bytes ≤ length (now ov)) × (h .resources .0 * (bytes + 4) ≤ length (now rs)) × (u .0 < people) ⌝ }
     ensures { λ s. ⌜ s ≡ grantPart h (now (ov .entry)) (now (rs .entry)) (r .0) (u .0) (resourceIs x) p ⌝ }
     ensures { λ s. ⌜ Few s ⌝ }
 {

@@ -7,6 +7,7 @@ use mathlib.Core.Option.{Option, none}
 use native.Mathlib.Omega.{arith}
 use lib.ListN.{length, take, drop}
 use lib.Seq.{take-at, drop-at}
+use Rattle.sets.specs.Words.{people}
 use Rattle.rows.specs.Number.{stored}
 use Rattle.rows.proofs.Laws.{stored-add, length-stored}
 use Rattle.rows.proofs.Table.{length-written}
@@ -102,7 +103,7 @@ module _ (h : Head) (t : Tables) (u r : ℕ) (ready : Ready h t) (list : List �
       (is-go .1, omega (arith, judged-room h t u r ready (length list / 3) ej ec, length-opened B u r (is-go .1))),
     )
 
-    pub one-few : c .inner + c .outer ≤ 126
+    pub one-few : c .inner + c .outer ≤ 2 * (people - 1)
     one-few = omega (arith, judged-few h t u r ready (length list / 3) ej ec)
 
     pub one-shown : {list′ : List ℕ} → list′ ≡ stored 0 (chainRows B u r) list

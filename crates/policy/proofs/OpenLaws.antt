@@ -12,6 +12,7 @@ use lib.ListN.{length, take, drop, getD, set, length-append, length-take, length
 use borrow.Author.Tests.{eq-eqb, ne-eqb, lt-ltb, le-ltb, ltb-false}
 use borrow.Rule.Slice.PartMut.{putMid}
 use Rattle.sets.specs.Sets.{has}
+use Rattle.sets.specs.Words.{people}
 use Rattle.rows.specs.Number.{stored}
 use Rattle.rows.proofs.Part.{stored-part}
 use Rattle.rows.proofs.Laws.{stored-add, stored-sets, length-stored}
@@ -42,7 +43,7 @@ use Rattle.theorems.proofs.KnowsLaws.{inner-access, outer-main}
 use Rattle.theorems.proofs.ChainLaws.{direct-row}
 use Rattle.theorems.proofs.ViewLaws.{view-open}
 use Rattle.theorems.proofs.ShownLaws.{inner-few, outer-few}
-use Rattle.layer.specs.Laid.{Laid, Kept, layerOf, foundIn, noResource}
+use Rattle.layer.specs.Laid.{innerShape, outerShape, Laid, Kept, layerOf, foundIn, noResource}
 use Rattle.layer.specs.Make.{setsOnly}
 use Rattle.layer.specs.declared.table.Found.{Found}
 use Rattle.layer.specs.declared.table.Found.the-variants.{At, Nothing}
@@ -51,7 +52,7 @@ use Rattle.layer.proofs.Steps.{found-at, not-found}
 use Rattle.sound.specs.Check.{checkedBy, checked}
 use Rattle.sound.specs.declared.Checked.{Checked}
 use Rattle.sound.specs.declared.Checked.the-variants as checks
-use Rattle.plan.specs.Judge.{Ready, innerShape, outerShape}
+use Rattle.plan.specs.Judge.{Ready}
 use Rattle.policy.specs.Open.{lengthsOf, openableBy, openable, ownOpen, Opening, innerRows, outerRows, knownIn, OuterThere, OuterNames, LetIn}
 use Rattle.policy.specs.declared.open.Lengths.{Lengths}
 use Rattle.policy.specs.declared.open.Openable.{Openable}
@@ -129,7 +130,7 @@ module _ (h : Head) (iv it ov ot rs : List ℕ) where
   outer-layer = refl
 
   module _ (ready : Ready h t) where
-    pub user-below : {u : ℕ} → u < h .users .0 → u < 64
+    pub user-below : {u : ℕ} → u < h .users .0 → u < people
     user-below l = omega (arith, sizes h iv it ov ot rs ready .users≤)
 
     pub inner-kept : {i : Shape} → i ≡ innerShape h → Kept i it iv
@@ -190,7 +191,7 @@ module _ (h : Head) (iv it ov ot rs : List ℕ) where
     inside′ = omega (arith, o .there, resources-count h iv it ov ot rs)
 
     -- neither chain has as many rows as there can be users
-    pub few : {k : Lengths} → k ≡ lengthsOf b u r → (k .inner < 64) × (k .outer < 64)
+    pub few : {k : Lengths} → k ≡ lengthsOf b u r → (k .inner < people) × (k .outer < people)
     few e = rw e (inner-few b safe u r keys inside′, outer-few b safe u r keys inside′)
 
     module _ {x : Resource} (ex : x ≡ getD (resourcesIn (h .resources .0) rs) r noResource) where
@@ -249,7 +250,7 @@ module _ (h : Head) (iv it ov ot rs : List ℕ) where
             longer : length list′ ≡ length list
             longer = ap length e ∙ length-stored 0 (innerRows (layerOf i it iv) u (x .inner)) list (omega (arith, inner-room))
 
-            pub starts-within : (k ≤ length list′) × (k < 64)
+            pub starts-within : (k ≤ length list′) × (k < people)
             starts-within = (omega (arith, both, longer), omega (arith, inner-few b safe u r keys inside′))
 
             pub outer-room : length (outerRows (layerOf s ot ov) u (x .outer)) ≤ length (take (length list′ - k) (drop k list′))
@@ -377,7 +378,7 @@ module _ (h : Head) (t : Tables) (u r : ℕ) (ready : Ready h t) (room : ℕ) {j
         }
 
     -- the counts are small
-    pub judged-few : (c .inner < 64) × (c .outer < 64)
+    pub judged-few : (c .inner < people) × (c .outer < people)
     judged-few = few h (t .innerVertices) (t .innerTokens) (t .outerVertices) (t .outerTokens) (t .resources) u r judged-opening (judged-go .1)
 
 -- ---- the calls
@@ -442,7 +443,7 @@ module _ (h : Head) (t : Tables) (u r : ℕ) {k : Checked} (ek : k ≡ checked h
         open-asks = (judged-opening h t u r ready (length list) ej ec, (ap (λ (x : Lengths). x .inner) (go .1), judged-room h t u r ready (length list) ej ec))
 
         -- the answer's counts are small
-        pub open-few : (c .inner < 64) × (c .outer < 64)
+        pub open-few : (c .inner < people) × (c .outer < people)
         open-few = judged-few h t u r ready (length list) ej ec
 
         pub open-shown : {list′ : List ℕ} → list′ ≡ stored 0 (opened B u r) list → showing (shown.Chains (c .inner) (c .outer)) list′ ≡ openCall u r h t list

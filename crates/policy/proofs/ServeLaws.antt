@@ -3,18 +3,19 @@
 use Prim.Native.Nat.{ℕ, _+_, _*_, _/_, _-_, _≤_, _<_}
 use mathlib.Core.Path.{_≡_, refl, sym, ap, ap₂, _∙_, subst}
 use mathlib.Core.Bool.{Bool, true, false, _&&_, cond, true≢false}
-use mathlib.Core.List.{List, [], _∷_, _++_, append-assoc, append-nil}
+use mathlib.Core.List.{List, [], _∷_, _++_, append-assoc}
 use mathlib.Core.Option.{Option, some, none}
 use native.Mathlib.Nat.{add-assoc, add-zero, zero-add}
 use native.Mathlib.Numerals.{add-one}
 use native.Mathlib.Omega.{arith}
 use lib.Dec.{ltb}
 use lib.ListN.{length, take, drop, getD, length-append, length-drop, take-append-drop, drop-of-length-le}
-use lib.Seq.{length-take-le, take-all, take-at, drop-at, take-append-add, drop-append-add, drop-cons, drop-drop}
+use lib.Seq.{length-take-le, take-at, drop-at, drop-cons, drop-drop}
 use borrow.Author.Tests.{lt-ltb, le-ltb}
 use borrow.Rule.Slice.PartMut.{putMid}
 use Rattle.rows.specs.Number.{stored}
 use Rattle.rows.proofs.Laws.{stored-none, stored-both, length-stored}
+use Rattle.rows.proofs.Part.{take-behind, drop-behind, part-lent, part-back}
 use Rattle.rules.specs.Bytes.{Tables, bookIn}
 use Rattle.rules.specs.Refusals.{Request, joins, inserts, grants, revokes, work, own, limits, verdict, common, noSuch}
 use Rattle.rules.specs.Calls.{rowsLent, change, changeBy, Asked, changes, opens, nothing, asked, askedIn, One, one, changeOne, openOne, All, all, Service, serving, serveBy, refusalServe, serveCall}
@@ -117,14 +118,6 @@ asked-next rows i l =
 
 -- ---- one more of them
 
--- what lies behind the first k
-module _ (k m : ℕ) (xs ys : List ℕ) (l : k ≤ length xs) where
-  take-behind : take (k + m) (take k xs ++ ys) ≡ take k xs ++ take m ys
-  take-behind = ap (λ (n : ℕ). take (n + m) (take k xs ++ ys)) (sym (length-take-le k xs l)) ∙ take-append-add (take k xs) ys m
-
-  drop-behind : drop (k + m) (take k xs ++ ys) ≡ drop m ys
-  drop-behind = ap (λ (n : ℕ). drop (n + m) (take k xs ++ ys)) (sym (length-take-le k xs l)) ∙ drop-append-add (take k xs) ys m
-
 -- i requests are served, by `used` order rows, and a is what the others give
 unfoldable pub with-rest : ℕ → ℕ → List ℕ → List ℕ → All → Service
 with-rest i used answers list a =
@@ -193,15 +186,6 @@ one-room q h t list =
     let g = one-gives q h t list in
     let rows : List ℕ = ownOrders q (keep h t) list in
     omega (arith, g .count, ap length (g .orders), length-append rows (drop (0 + length rows) list))
-
--- the part behind k, lent on, and what comes back
-part-lent : (k : ℕ) (xs : List ℕ) → take (length xs - k) (drop k xs) ≡ drop k xs
-part-lent k xs = take-all (length xs - k) (drop k xs) (simp length-drop (omega arith))
-
-part-back : (k : ℕ) (xs ys : List ℕ) → putMid k (length xs - k) xs ys ≡ take k xs ++ ys
-part-back k xs ys =
-    let n : length (drop k xs) ≤ length xs - k = simp length-drop (omega arith) in
-    rw (drop-of-length-le (drop k xs) {i = length xs - k} n, append-nil)
 
 -- i requests of a call on h, t, answers₀ and list₀ are served: they left this
 pub record Serving (requests : List ℕ) (h : Head) (t : Tables) (answers₀ list₀ : List ℕ) (i used : ℕ) (head : Head) (left : Tables) (answers list : List ℕ) : Type 0 where

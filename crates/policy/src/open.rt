@@ -7,11 +7,12 @@ use layer::walk::Shape;
 use layer::walk::chain_length;
 use layer::walk::chain_rows;
 use layer::walk::find_direct;
-use plan::inner_shape;
+use layer::walk::inner_shape;
+use layer::walk::outer_shape;
 use plan::judge::all_holders;
 use plan::judge::no_such;
-use plan::outer_shape;
 use rules::Head;
+use rules::InnerVertex;
 use rules::Opened;
 use rules::OuterVertex;
 use rules::Refusal;
@@ -27,6 +28,7 @@ ghost use mathlib.Core.Bool.{true};
 ghost use Prim.Native.Nat.{_+_, _*_, _≤_, _<_};
 ghost use lib.ListN.{length};
 ghost use Rattle.sets.specs.Sets.{has};
+ghost use Rattle.sets.specs.Words.{people, bytes};
 ghost use Rattle.rows.specs.Number.{stored};
 ghost use Rattle.rules.specs.Bytes.{tables, bookIn};
 ghost use Rattle.rules.specs.Holders.{viewBy, view};
@@ -57,7 +59,7 @@ fn view_by(inner: bool, outer: bool) -> View
 
 // Whether u knows the key of one of n outer vertices: "where there is no outer key, the outer layer counts as known".
 fn outer_known(ov: &[u8], n: usize, v: OuterVertex, u: User) -> bool
-    requires { ⌜ (n * 8 ≤ length (now ov)) × (u .0 < 64) × OuterThere n (v .0) ⌝ }
+    requires { ⌜ (n * bytes ≤ length (now ov)) × (u .0 < people) × OuterThere n (v .0) ⌝ }
     ensures { λ b. ⌜ b ≡ knownIn (setsOnly n (now (ov .entry))) (u .0) (v .0) ⌝ }
 {
     if v.0 == OuterVertex::NONE {
@@ -82,7 +84,7 @@ fn view_of(
     ensures { λ w. ⌜ w ≡ view (bookIn h (tables (now (iv .entry)) (now (it .entry)) (now (ov .entry)) (now (ot .entry)) (now (rs .entry)))) (u .0) (r .0) ⌝ }
 {
     let x = resource_in(rs, h.resources.0 as usize, r.0 as usize);
-    let inner = all_holders(iv, it, inner_shape(h), x.inner.0).has(u);
+    let inner = all_holders(iv, it, inner_shape(h), x.inner).has(u);
     let outer = outer_known(ov, h.outer_vertices.0 as usize, x.outer, u);
     view_by(inner, outer)
 }
@@ -120,21 +122,21 @@ pub struct Lengths {
 }
 
 // A user who is not in the inner vertex's set has one row.
-fn inner_length(iv: &[u8], it: &[u8], i: Shape, v: u16, u: User) -> usize
+fn inner_length(iv: &[u8], it: &[u8], i: Shape, v: InnerVertex, u: User) -> usize
     requires { ⌜ Kept i (now it) (now iv) ⌝ }
-    requires { ⌜ (v < i .vertices) × (u .0 < 64) ⌝ }
-    ensures { λ k. ⌜ k ≡ length (innerRows (layerOf i (now (it .entry)) (now (iv .entry))) (u .0) v) ⌝ }
+    requires { ⌜ (v .0 < i .vertices) × (u .0 < people) ⌝ }
+    ensures { λ k. ⌜ k ≡ length (innerRows (layerOf i (now (it .entry)) (now (iv .entry))) (u .0) (v .0)) ⌝ }
 {
-    if !set_of(iv, i.vertices, v as usize).has(u) {
+    if !set_of(iv, i.vertices, v.0 as usize).has(u) {
         return 1;
     }
-    chain_length(it, iv, i, v, u)
+    chain_length(it, iv, i, v.0, u)
 }
 
 // No outer key gives no rows.
 fn outer_length(ov: &[u8], ot: &[u8], o: Shape, v: OuterVertex, u: User) -> usize
     requires { ⌜ Kept o (now ot) (now ov) ⌝ }
-    requires { ⌜ (u .0 < 64) × OuterNames o (layerOf o (now ot) (now ov)) (u .0) (v .0) ⌝ }
+    requires { ⌜ (u .0 < people) × OuterNames o (layerOf o (now ot) (now ov)) (u .0) (v .0) ⌝ }
     ensures { λ k. ⌜ k ≡ length (outerRows (layerOf o (now (ot .entry)) (now (ov .entry))) (u .0) (v .0)) ⌝ }
 {
     if v.0 == OuterVertex::NONE {
@@ -157,7 +159,7 @@ fn chain_lengths(
     ensures { λ k. ⌜ k ≡ lengthsOf (bookIn h (tables (now (iv .entry)) (now (it .entry)) (now (ov .entry)) (now (ot .entry)) (now (rs .entry)))) (u .0) (r .0) ⌝ }
 {
     let x = resource_in(rs, h.resources.0 as usize, r.0 as usize);
-    let inner = inner_length(iv, it, inner_shape(h), x.inner.0, u);
+    let inner = inner_length(iv, it, inner_shape(h), x.inner, u);
     let outer = outer_length(ov, ot, outer_shape(h), x.outer, u);
     Lengths { inner, outer }
 }
@@ -199,17 +201,17 @@ pub fn judge_open(
 // ---- the chains' rows
 
 // The rows of the inner chain, or the one kind 1 row.
-fn inner_rows(iv: &[u8], it: &[u8], i: Shape, v: u16, u: User, list: &mut [u16])
+fn inner_rows(iv: &[u8], it: &[u8], i: Shape, v: InnerVertex, u: User, list: &mut [u16])
     requires { ⌜ Kept i (now it) (now iv) ⌝ }
-    requires { ⌜ (v < i .vertices) × (u .0 < 64) × LetIn i (layerOf i (now it) (now iv)) (u .0) v ⌝ }
-    requires { ⌜ length (innerRows (layerOf i (now it) (now iv)) (u .0) v) ≤ length (now list) ⌝ }
-    ensures { λ _. ⌜ now (list .exit) ≡ stored 0 (innerRows (layerOf i (now (it .entry)) (now (iv .entry))) (u .0) v) (now (list .entry)) ⌝ }
+    requires { ⌜ (v .0 < i .vertices) × (u .0 < people) × LetIn i (layerOf i (now it) (now iv)) (u .0) (v .0) ⌝ }
+    requires { ⌜ length (innerRows (layerOf i (now it) (now iv)) (u .0) (v .0)) ≤ length (now list) ⌝ }
+    ensures { λ _. ⌜ now (list .exit) ≡ stored 0 (innerRows (layerOf i (now (it .entry)) (now (iv .entry))) (u .0) (v .0)) (now (list .entry)) ⌝ }
 {
-    if set_of(iv, i.vertices, v as usize).has(u) {
-        chain_rows(it, iv, i, v, u, list);
+    if set_of(iv, i.vertices, v.0 as usize).has(u) {
+        chain_rows(it, iv, i, v.0, u, list);
         return;
     }
-    let Found::At(row) = find_direct(it, iv, i, v, u) else {
+    let Found::At(row) = find_direct(it, iv, i, v.0, u) else {
         return;
     };
     list[0] = row as u16;
@@ -218,7 +220,7 @@ fn inner_rows(iv: &[u8], it: &[u8], i: Shape, v: u16, u: User, list: &mut [u16])
 // The rows of the outer chain, if any.
 fn outer_rows(ov: &[u8], ot: &[u8], o: Shape, v: OuterVertex, u: User, list: &mut [u16])
     requires { ⌜ Kept o (now ot) (now ov) ⌝ }
-    requires { ⌜ (u .0 < 64) × OuterNames o (layerOf o (now ot) (now ov)) (u .0) (v .0) ⌝ }
+    requires { ⌜ (u .0 < people) × OuterNames o (layerOf o (now ot) (now ov)) (u .0) (v .0) ⌝ }
     requires { ⌜ length (outerRows (layerOf o (now ot) (now ov)) (u .0) (v .0)) ≤ length (now list) ⌝ }
     ensures { λ _. ⌜ now (list .exit) ≡ stored 0 (outerRows (layerOf o (now (ot .entry)) (now (ov .entry))) (u .0) (v .0)) (now (list .entry)) ⌝ }
 {
@@ -247,7 +249,7 @@ pub fn put_chains(
     ensures { λ _. ⌜ now (list .exit) ≡ stored 0 (opened (bookIn h (tables (now (iv .entry)) (now (it .entry)) (now (ov .entry)) (now (ot .entry)) (now (rs .entry)))) (u .0) (r .0)) (now (list .entry)) ⌝ }
 {
     let x = resource_in(rs, h.resources.0 as usize, r.0 as usize);
-    inner_rows(iv, it, inner_shape(h), x.inner.0, u, list);
+    inner_rows(iv, it, inner_shape(h), x.inner, u, list);
     outer_rows(ov, ot, outer_shape(h), x.outer, u, &mut list[at..]);
 }
 

@@ -6,12 +6,14 @@ use plan::Request;
 use plan::judge::judge;
 use rules::Changed;
 use rules::Head;
+use rules::Order;
 use rules::Resource;
 use sets::User;
 use sets::Users;
 use sound::Checked;
 use sound::check;
 ghost use mathlib.Core.Path.{_≡_};
+ghost use Rattle.sets.specs.Words.{setIn};
 ghost use Rattle.rules.specs.Bytes.{tables};
 ghost use Rattle.rules.specs.Refusals.{joins, inserts, grants, revokes};
 ghost use Rattle.rules.specs.Calls.{change, changing};
@@ -31,7 +33,7 @@ pub fn carry_out(
     requires { ⌜ Ready h (tables (now iv) (now it) (now ov) (now ot) (now rs)) ⌝ }
     ensures { λ c. ⌜ changing c (tables (now (iv .exit)) (now (it .exit)) (now (ov .exit)) (now (ot .exit)) (now (rs .exit))) (now (orders .exit)) ≡ change (requestOf q) h (tables (now (iv .entry)) (now (it .entry)) (now (ov .entry)) (now (ot .entry)) (now (rs .entry))) (now (orders .entry)) ⌝ }
 {
-    let j = judge(h, iv, it, ov, ot, rs, q, orders.len() / 3);
+    let j = judge(h, iv, it, ov, ot, rs, q, orders.len() / Order::WIDTH);
     match j {
         Judged::No(n) => Changed::No(n),
         Judged::Go(p) => {
@@ -88,7 +90,7 @@ pub fn insert(
     orders: &mut [u16],
     l: Users,
 ) -> Changed
-    ensures { λ c. ⌜ changing c (tables (now (iv .exit)) (now (it .exit)) (now (ov .exit)) (now (ot .exit)) (now (rs .exit))) (now (orders .exit)) ≡ change (inserts (l .0)) h (tables (now (iv .entry)) (now (it .entry)) (now (ov .entry)) (now (ot .entry)) (now (rs .entry))) (now (orders .entry)) ⌝ }
+    ensures { λ c. ⌜ changing c (tables (now (iv .exit)) (now (it .exit)) (now (ov .exit)) (now (ot .exit)) (now (rs .exit))) (now (orders .exit)) ≡ change (inserts (setIn l)) h (tables (now (iv .entry)) (now (it .entry)) (now (ov .entry)) (now (ot .entry)) (now (rs .entry))) (now (orders .entry)) ⌝ }
 {
     change(h, iv, it, ov, ot, rs, orders, Request::Insert(l))
 }

@@ -9,6 +9,7 @@ use layer::cover::put_order;
 use plan::Request;
 use rules::Changed;
 use rules::Head;
+use rules::Order;
 use rules::Refusal;
 use rules::Resource;
 use rules::Served;
@@ -28,6 +29,14 @@ ghost use Rattle.rules.specs.Calls.{opens, asked, askedIn, one, chainRows, all,
 ghost use Rattle.plan.specs.Judge.{Ready};
 ghost use Rattle.policy.specs.Open.{Opening, lengthsOf};
 ghost use Rattle.policy.specs.Serve.{askedOf, narrow, answering, Refuses, Tells, marked, Answerable, servedAll};
+
+// The numbers of a request row, and of an answer row.
+pub const REQUEST_WIDTH: usize = 3;
+
+pub const ANSWER_WIDTH: usize = 3;
+
+// The most rows that the two chains of an open can have together: each has fewer than there are users.
+pub const CHAINS: usize = 2 * (Users::LIMIT as usize - 1);
 
 // ---- what a row asks
 
@@ -63,7 +72,7 @@ fn row_asks(kind: u64, a: u64, b: u64) -> Asks
     }
     if kind == 1 {
         if b == 0 {
-            return Asks::Change(Request::Insert(Users(a)));
+            return Asks::Change(Request::Insert(Users::of_word(a)));
         }
         return Asks::Nothing;
     }
@@ -139,7 +148,7 @@ fn put_shown(
     requires { ⌜ (k .inner + k .outer) * 3 ≤ length (now orders) ⌝ }
     ensures { λ _. ⌜ now (orders .exit) ≡ stored 0 (chainRows (bookIn h (tables (now (iv .entry)) (now (it .entry)) (now (ov .entry)) (now (ot .entry)) (now (rs .entry)))) (u .0) (r .0)) (now (orders .entry)) ⌝ }
 {
-    let mut list: [u16; 126] = [0; 126];
+    let mut list: [u16; CHAINS] = [0; CHAINS];
     let inner = k.inner;
     let outer = k.outer;
     put_chains(h, iv, it, ov, ot, rs, u, r, inner, &mut list);
@@ -162,7 +171,7 @@ fn open_one(
     requires { ⌜ Ready h (tables (now iv) (now it) (now ov) (now ot) (now rs)) ⌝ }
     ensures { λ a. ⌜ answering a (tables (now (iv .entry)) (now (it .entry)) (now (ov .entry)) (now (ot .entry)) (now (rs .entry))) (now (orders .exit)) ≡ one (opens (u .0) (r .0)) h (tables (now (iv .entry)) (now (it .entry)) (now (ov .entry)) (now (ot .entry)) (now (rs .entry))) (now (orders .entry)) ⌝ }
 {
-    let j = judge_open(h, iv, it, ov, ot, rs, u, r, orders.len() / 3);
+    let j = judge_open(h, iv, it, ov, ot, rs, u, r, orders.len() / Order::WIDTH);
     match j {
         Openable::No(n) => refused(h, n),
         Openable::Go(k) => {
@@ -224,10 +233,19 @@ fn serve_all(
     let mut head = h;
     let mut used: usize = 0;
     let mut i: usize = 0;
-    while i < requests.len() / 3 {
-        let at = i * 3;
+    while i < requests.len() / REQUEST_WIDTH {
+        let at = i * REQUEST_WIDTH;
         let q = row_asks(requests[at], requests[at + 1], requests[at + 2]);
-        let a = answer_one(head, iv, it, ov, ot, rs, &mut orders[used * 3..], q);
+        let a = answer_one(
+            head,
+            iv,
+            it,
+            ov,
+            ot,
+            rs,
+            &mut orders[used * Order::WIDTH..],
+            q,
+        );
         put_order(answers, i, a.number, a.view, a.count);
         head = a.head;
         used += a.count as usize;
@@ -253,7 +271,7 @@ pub fn serve(
     match k {
         Checked::No(n) => Served::No(n),
         Checked::Sound => {
-            if answers.len() / 3 < requests.len() / 3 {
+            if answers.len() / ANSWER_WIDTH < requests.len() / REQUEST_WIDTH {
                 return Served::No(Refusal::ShortList);
             }
             let s = serve_all(h, iv, it, ov, ot, rs, requests, answers, orders);

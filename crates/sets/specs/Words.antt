@@ -9,13 +9,16 @@ people = 64
 abbrev pub bytes : ℕ
 bytes = 8
 
--- nobody, as a value: what an array of sets has past its end
-abbrev pub nobody : Users
-nobody = record { 0 = 0 }
-
--- the set that is kept
+-- the set that is kept, and the value that keeps a set
 abbrev pub setIn : Users → ℕ
 setIn s = s .0
+
+abbrev pub usersOf : ℕ → Users
+usersOf n = record { 0 = n }
+
+-- nobody, as a value: what an array of sets has past its end
+abbrev pub nobody : Users
+nobody = usersOf 0
 
 -- a set's bits mixed: nothing is claimed of it but that it is one number for each set
 unfoldable pub mixed : ℕ → ℕ

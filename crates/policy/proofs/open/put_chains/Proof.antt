@@ -3,6 +3,7 @@ use Prim.Native.Nat.{_≤_, _<_}
 use mathlib.Core.Path.{refl}
 use native.Mathlib.Omega.{arith}
 use lib.ListN.{length}
+use Rattle.sets.specs.Words.{people}
 use Rattle.layer.specs.Laid.{resourceIs}
 use Rattle.plan.proofs.ReadyLaws.{sizes}
 use Rattle.policy.proofs.OpenLaws.{user-below, inner-kept, outer-kept, inner-there, let-in, outer-names, inner-room, starts-within, outer-room, both-stored}
@@ -11,7 +12,7 @@ use Rattle.policy.proofs.open.put_chains.Statement.{statement}
 use Rattle.policy.proofs.open.put_chains.Tie as tie
 
 -- the outer rows start within the list
-within : (c : tie.After-outer-shape) → let k = c .before .before .before .before .before .before .before .before .before .before .before .before .before .before .before .args .at in (k ≤ length (c .before .before .before .inner-rows .last .1 .1 .1 .1 .1 .0)) × (k < 64)
+within : (c : tie.After-outer-shape) → let k = c .before .before .before .before .before .before .before .before .before .before .before .before .before .before .before .args .at in (k ≤ length (c .before .before .before .inner-rows .last .1 .1 .1 .1 .1 .0)) × (k < people)
 within c = let s = c .before .before .before .before .before .before .before .before .before .before .before .before .before .before .before in starts-within _ _ _ _ _ _ _ _ (s .pre .0) {x = resourceIs (c .before .before .before .before .before .before .resource-in .result)} (c .before .before .before .before .before .before .resource-in .ensures) (c .before .before .before .before .before .inner-shape .ensures) (c .outer-shape .ensures) _ (s .pre .1 .0) (s .pre .1 .1) (c .before .before .before .inner-rows .ensures)
 
 cast-resource-in : tie.Need-cast-resource-in

@@ -1,10 +1,12 @@
 -- `policy::serve::row_asks` meets its contract. Assumes nothing.
-use Prim.Native.Nat.{_≤_}
+use Prim.Native.Nat.{ℕ, _≤_}
+use mathlib.Core.Path.{ap}
 use mathlib.Core.Logic.{⊎-elim, inl, inr}
 use native.Mathlib.Omega.{arith}
 use borrow.Author.Needs.{needs}
 use borrow.Author.Tests.{ltb-true, ltb-false, ne-eqb}
-use Rattle.rules.specs.Calls.{asked}
+use Rattle.rules.specs.Refusals.{inserts}
+use Rattle.rules.specs.Calls.{changes, asked}
 use Rattle.policy.specs.Serve.{narrow}
 use Rattle.policy.proofs.AskedLaws.{row-pair, row-wide}
 use Rattle.policy.proofs.serve.row_asks.Statement.{statement}
@@ -18,9 +20,12 @@ returns : tie.Need-returns
 unfolding narrow asked
 returns c = rw (c .if1 .taken)
 
+of-word-requires : tie.Need-of-word-requires
+of-word-requires c κs = search needs
+
 returns-2 : tie.Need-returns-2
 unfolding narrow asked
-returns-2 c = rw (c .before .if2 .taken, c .if3 .taken)
+returns-2 c = let insert = c .before in rw (insert .before .if2 .taken, insert .if3 .taken) (ap (λ (l : ℕ). changes (inserts l)) (c .of-word .ensures))
 
 returns-3 : tie.Need-returns-3
 unfolding narrow asked
@@ -49,6 +54,7 @@ row-asks-spec =
     tie.close
     (tie.spec
     returns
+    of-word-requires
     returns-2
     returns-3
     returns-4
