@@ -20,7 +20,6 @@ use rules::Resource;
 use rules::View;
 use rules::Viewed;
 use sets::User;
-use sets::Users;
 use sound::Checked;
 use sound::check;
 ghost use mathlib.Core.Path.{_≡_};
