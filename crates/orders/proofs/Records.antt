@@ -58,7 +58,7 @@ over-length list rows i h = simp (length-append, length-drop, length-orders-in) 
 -- orders that were stored as rows of numbers are read back
 pub orders-back : (os : List Order) (rows : List ℕ) → ordersIn (length os) (stored 0 (orderRows os) rows) ≡ os
 unfolding stored
-orders-back os rows = orders-read os (drop (length (orderRows os)) rows)
+orders-back os rows = orders-read os (drop (0 + length (orderRows os)) rows)
 
 -- ---- the numbers at first; shut, since they are many
 
