@@ -8,7 +8,7 @@ use lib.ListN.{length}
 use borrow.Author.Tests.{lt-ltb, le-ltb}
 use Rattle.rows.specs.Number.{stored}
 use Rattle.rules.specs.Bytes.{Tables}
-use Rattle.rules.specs.Refusals.{number, viewNumber, viewTold, Request}
+use Rattle.rules.specs.Refusals.{number, viewNumber, viewTold, Request, inserts}
 use Rattle.rules.specs.Calls.{Change, changing, change, viewCall, Shown, showing, openCall, Service, serving, serveCall}
 use Rattle.rules.specs.declared.Head.{Head}
 use Rattle.rules.specs.declared.View.{View}
@@ -23,7 +23,7 @@ use Rattle.rules.specs.declared.Opened.{Opened}
 use Rattle.rules.specs.declared.Opened.the-variants as opened
 use Rattle.rules.specs.declared.Served.{Served}
 use Rattle.rules.specs.declared.Served.the-variants as served
-use Rattle.host.specs.Answers.{headLength, headFrom, headNumbers, resultOf, Told, toldAs, changeTold, changedAs, changeBy, changeAnswer, viewedAs, viewAs, viewAnswer, openedAs, openBy, openAnswer, serveTold, servedAs, serveBy, serveAnswer}
+use Rattle.host.specs.Answers.{headLength, headFrom, headNumbers, resultOf, Told, toldAs, changeTold, Changes, changedAs, changeBy, changeAnswer, viewedAs, viewAs, viewAnswer, openedAs, openBy, openAnswer, serveTold, servedAs, serveBy, serveAnswer}
 
 -- ---- a refusal's number
 
@@ -76,6 +76,11 @@ change-told q l t list k {u = u} {rows = rows} n eh p e =
     rw (le-ltb (length l) headLength n)
     (ap (λ (x : Told). changedAs (x .result) (x .head) u rows (x .count)) e
     ∙ ap (λ (x : Change). changeBy x l k) (p ∙ ap (λ (x : Head). change q x t list) eh))
+
+-- an insert of a set that is l
+pub insert-of : (l : List ℕ) (t : Tables) (list : List ℕ) (k : ℕ) {a : Changes} {m n : ℕ} → a ≡ changeAnswer (inserts m) l t list k → m ≡ n
+    → a ≡ changeAnswer (inserts n) l t list k
+insert-of l t list k e f = e ∙ ap (λ (x : ℕ). changeAnswer (inserts x) l t list k) f
 
 -- ---- view
 

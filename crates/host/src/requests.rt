@@ -110,7 +110,7 @@ pub extern "C" fn fenstubble_insert(
         rs,
         orders,
         count,
-        Request::Insert(Users(l)),
+        Request::Insert(Users::of_word(l)),
     )
 }
 
