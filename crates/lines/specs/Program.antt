@@ -36,6 +36,11 @@ closed [] = []
 closed (c ∷ []) = cond (newline c) (c ∷ []) (c ∷ 10 ∷ [])
 closed (c ∷ d ∷ cs) = c ∷ closed (d ∷ cs)
 
+-- the bytes of lines with their newlines
+unfoldable pub span : List (List ℕ) → ℕ
+span [] = 0
+span (l ∷ ls) = length l + 1 + span ls
+
 -- ---- the answer to a line: its text, and the book that it leaves
 
 pub record Told : Type 0 where
@@ -83,6 +88,11 @@ answers [] b = []
 answers (l ∷ ls) b =
     let t = lineTold (lineAsks l) b in
     t .text ++ answers ls (t .book)
+
+-- the book after them
+unfoldable pub leaves : List (List ℕ) → Book → Book
+leaves [] b = b
+leaves (l ∷ ls) b = leaves ls (lineTold (lineAsks l) b .book)
 
 -- the first line "prints nothing; anything else prints `no 14` and ends"
 unfoldable pub started : First → List (List ℕ) → List ℕ
