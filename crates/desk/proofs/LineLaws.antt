@@ -17,9 +17,10 @@ use Rattle.lines.specs.Request.{longer, lineAsks, firstLine}
 use Rattle.lines.specs.declared.request.First.{First}
 use Rattle.lines.specs.declared.request.First.the-variants.{Malformed}
 use Rattle.lines.specs.declared.request.Asked.{Asked}
-use Rattle.desk.specs.Input.{newline, linesIn, between, Within, tooLong, Keeps, modeTaken}
+use Rattle.lines.specs.Program.{newline, linesIn, span}
+use Rattle.desk.specs.Input.{between, Within, tooLong, Keeps, modeTaken}
 use Rattle.desk.specs.declared.input.Unread.{Unread}
-use Rattle.desk.specs.Block.{rowFor, numbersOf, mostOf, rowsOf, span, lineCount, Takes}
+use Rattle.desk.specs.Block.{rowFor, numbersOf, mostOf, rowsOf, lineCount, Takes}
 use Rattle.lines.proofs.Putting.{put-byte}
 use Rattle.desk.proofs.PrintLaws.{taken-stored}
 

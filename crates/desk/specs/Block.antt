@@ -10,11 +10,12 @@ use Rattle.rules.specs.Bytes.{Tables}
 use Rattle.rules.specs.declared.Served.{Served}
 use Rattle.rules.specs.declared.Served.the-variants.{Done, No}
 use Rattle.plan.specs.Judge.{Ready}
-use Rattle.desk.specs.Input.{linesIn, between}
+use Rattle.desk.specs.Input.{between}
 use Rattle.desk.specs.Output.{counts, neverTen}
 use Rattle.desk.specs.declared.block.Block.{Block}
 use Rattle.desk.specs.declared.input.Unread.{Unread}
 use Rattle.lines.specs.Request.{lineAsks}
+use Rattle.lines.specs.Program.{linesIn, span}
 use Rattle.lines.specs.declared.request.Asked.{Asked}
 use Rattle.lines.specs.declared.request.Line.{Line}
 use Rattle.lines.specs.declared.request.Line.the-variants.{Asks, Malformed}
@@ -57,11 +58,6 @@ mostIn (k ∷ a ∷ b ∷ rows) = mostOf k + mostIn rows
 unfoldable pub rowsOf : Bool → List (List ℕ) → List ℕ
 rowsOf cut [] = []
 rowsOf cut (l ∷ ls) = numbersOf (rowFor cut (lineAsks l)) ++ rowsOf false ls
-
--- the bytes of lines with their newlines
-unfoldable pub span : List (List ℕ) → ℕ
-span [] = 0
-span (l ∷ ls) = length l + 1 + span ls
 
 -- how many of the lines: to the last of them, unless n rows are filled or fewer order rows are left than a request may need
 unfoldable pub lineCount : ℕ → ℕ → Bool → List (List ℕ) → ℕ

@@ -4,21 +4,13 @@ use Prim.Native.Nat.{ℕ, _+_, _-_, _≤_}
 use mathlib.Core.Path.{_≡_}
 use mathlib.Core.Bool.{Bool, true, false, cond, _||_}
 use mathlib.Core.List.{List, [], _∷_}
-use lib.Dec.{eqb, ltb}
+use lib.Dec.{ltb}
 use lib.ListN.{length, take, drop}
-use Rattle.lines.specs.Request.{longer, firstLine}
+use Rattle.lines.specs.Request.{firstLine}
 use Rattle.lines.specs.declared.request.First.{First}
 use Rattle.lines.specs.declared.request.First.the-variants.{Of, Malformed}
 use Rattle.desk.specs.declared.input.Unread.{Unread}
 use Rattle.desk.specs.declared.input.Taken.{Taken}
-
-abbrev pub newline : ℕ → Bool
-newline c = eqb c 10
-
--- the whole lines of a text, each without its newline; what stands behind the last newline is none
-unfoldable pub linesIn : List ℕ → List (List ℕ)
-linesIn [] = []
-linesIn (c ∷ cs) = let ls = linesIn cs in cond (newline c) ([] ∷ ls) (longer c ls)
 
 -- the bytes from one place to another
 abbrev pub between : ℕ → ℕ → List ℕ → List ℕ

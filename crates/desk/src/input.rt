@@ -7,7 +7,8 @@ ghost use Prim.Native.Nat.{_-_, _≤_, _<_};
 ghost use lib.ListN.{length};
 ghost use Rattle.rows.specs.Number.{stored};
 ghost use Rattle.rules.specs.Lists.{first};
-ghost use Rattle.desk.specs.Input.{newline, linesIn, between, Within, Kept, Keeps, Moded, modeTaken};
+ghost use Rattle.lines.specs.Program.{newline, linesIn};
+ghost use Rattle.desk.specs.Input.{between, Within, Kept, Keeps, Moded, modeTaken};
 
 // The buffer's bytes: a line too long to be a request and one read more.
 pub const INPUT: usize = 16384;
