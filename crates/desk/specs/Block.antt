@@ -6,6 +6,7 @@ use mathlib.Core.Bool.{Bool, true, false, cond}
 use mathlib.Core.List.{List, [], _∷_, _++_}
 use lib.Dec.{eqb, leb}
 use lib.ListN.{length, take}
+use Rattle.rules.specs.Book.{Book}
 use Rattle.rules.specs.Bytes.{Tables}
 use Rattle.rules.specs.declared.Served.{Served}
 use Rattle.rules.specs.declared.Served.the-variants.{Done, No}
@@ -14,8 +15,8 @@ use Rattle.desk.specs.Input.{between}
 use Rattle.desk.specs.Output.{counts, neverTen}
 use Rattle.desk.specs.declared.block.Block.{Block}
 use Rattle.desk.specs.declared.input.Unread.{Unread}
-use Rattle.lines.specs.Request.{lineAsks}
-use Rattle.lines.specs.Program.{linesIn, span}
+use Rattle.lines.specs.Request.{asking, lineAsks}
+use Rattle.lines.specs.Program.{linesIn, span, Told, lineTold}
 use Rattle.lines.specs.declared.request.Asked.{Asked}
 use Rattle.lines.specs.declared.request.Line.{Line}
 use Rattle.lines.specs.declared.request.Line.the-variants.{Asks, Malformed}
@@ -79,6 +80,28 @@ pub record Reads (u : Unread) (input : List ℕ) (b : Block) (requests : List �
   pub takes : Takes 128 6144 (u .cut) (u .from) (linesIn (between (u .from) (u .to) input)) (b .rows) (take (b .rows * 3) requests) (b .unread .from) (b .unread .cut)
   pub to≡ : b .unread .to ≡ u .to
   pub ended≡ : b .unread .ended ≡ u .ended
+
+-- ---- the answers to request rows
+
+-- to one row: to the line that has it
+unfoldable pub rowTold : ℕ → ℕ → ℕ → Book → Told
+rowTold kind a b book = lineTold (cond (eqb kind 14) Malformed (asking kind a b)) book
+
+-- to several, one after the other
+unfoldable pub rowsAnswers : List ℕ → Book → List ℕ
+rowsAnswers [] book = []
+rowsAnswers (k ∷ []) book = []
+rowsAnswers (k ∷ a ∷ []) book = []
+rowsAnswers (k ∷ a ∷ b ∷ rows) book =
+    let t = rowTold k a b book in
+    t .text ++ rowsAnswers rows (t .book)
+
+-- the book after them
+unfoldable pub rowsLeave : List ℕ → Book → Book
+rowsLeave [] book = book
+rowsLeave (k ∷ []) book = book
+rowsLeave (k ∷ a ∷ []) book = book
+rowsLeave (k ∷ a ∷ b ∷ rows) book = rowsLeave rows (rowTold k a b book .book)
 
 -- ---- serving them
 
