@@ -11,13 +11,16 @@ use lib.ListN.{length, take, drop, getD}
 use lib.Seq.{take-at, drop-at, length-take-le}
 use borrow.Author.Tests.{eqb-true, ne-eqb}
 use Rattle.rows.specs.Number.{stored, joined}
-use Rattle.rows.proofs.Laws.{length-stored}
+use Rattle.rows.proofs.Laws.{length-stored, stored-first}
 use Rattle.rules.specs.Lists.{tabulate, tabulateFrom}
 use Rattle.rules.specs.Book.{Book}
 use Rattle.rules.specs.Bytes.{Tables, bookIn}
 use Rattle.rules.specs.Runs.{keep}
-use Rattle.rules.specs.Calls.{rowsLent, Asked, asked, askedIn, One, one, refusedOne, All, all}
+use Rattle.rules.specs.Calls.{rowsLent, Asked, asked, askedIn, One, one, refusedOne, All, all, Service, serving, serveBy, serveCall}
 use Rattle.rules.specs.declared.Head.{Head}
+use Rattle.rules.specs.declared.Served.{Served}
+use Rattle.rules.specs.declared.Served.the-variants.{Done}
+use Rattle.plan.specs.Judge as plan
 use Rattle.theorems.proofs.ServeLaws.{Ready, ready-one, ownOrders, one-gives}
 use Rattle.lines.specs.Answer.{answerText}
 use Rattle.lines.specs.Request.{lineAsks}
@@ -25,9 +28,9 @@ use Rattle.lines.specs.Program.{Told, no14, lineTold, answerTo, answers, leaves
 use Rattle.lines.proofs.ProgramLaws.{Kind, asks-kind}
 use Rattle.lines.specs.declared.request.Line.{Line}
 use Rattle.lines.specs.declared.request.Line.the-variants.{Asks, Malformed}
-use Rattle.desk.specs.Block.{rowOf, rowsOf, rowTold, rowsAnswers, rowsLeave}
+use Rattle.desk.specs.Block.{Enough, rowOf, rowsOf, rowTold, rowsAnswers, rowsLeave}
 use Rattle.desk.specs.Output.{told, texts}
-use Rattle.desk.proofs.BlockLaws.{mostAsked, mostAll, asked-cons, Roomy, one-roomy, rest-room}
+use Rattle.desk.proofs.BlockLaws.{mostAsked, mostAll, most-rows, asked-cons, Roomy, one-roomy, rest-room, kept, served, rows-long}
 
 -- ---- one row
 
@@ -147,3 +150,25 @@ lines-leave [] b = refl
 lines-leave (l ∷ ls) b =
     let e = line-row b (lineAsks l) (asks-kind l) in
     ap (λ (t : Told). rowsLeave (rowsOf false ls) (t .book)) e ∙ lines-leave ls (lineTold (lineAsks l) b .book)
+
+-- ---- the call that serves a block, and its texts
+
+module _ (requests : List ℕ) (h : Head) (t : Tables) (answers₀ list : List ℕ) (k : plan.Ready h t) (e : Enough requests answers₀ list) where
+  all-told : AllTold requests (bookIn h t) (all (askedIn requests) h t list)
+  unfolding rowsLent
+  all-told = rows-told requests h t list (kept requests h t answers₀ list k e) (omega (arith, most-rows requests, e .room))
+
+  pub serve-told : {s : Served} {t′ : Tables} {answers′ list′ : List ℕ} → serving s t′ answers′ list′ ≡ serveCall requests h t answers₀ list
+      → (joined (texts requests (take (length requests) answers′) list′) ≡ rowsAnswers requests (bookIn h t))
+      × ((h′ : Head) (n : ℕ) → s ≡ Done h′ n → bookIn h′ t′ ≡ rowsLeave requests (bookIn h t))
+  unfolding serveBy
+  serve-told {s} {t′} {answers′} {list′} p =
+      let a : All = all (askedIn requests) h t list in
+      let q = p ∙ served requests h t answers₀ list k e in
+      let done : s ≡ Done (a .head) (a .used) = ap (λ (c : Service). c .answer) q in
+      let left : t′ ≡ a .tables = ap (λ (c : Service). c .tables) q in
+      let rows : take (length requests) answers′ ≡ a .answers =
+      ap₂ (λ (n : ℕ) (l : List ℕ). take n l) (sym (rows-long requests h t answers₀ list k e)) (ap (λ (c : Service). c .answers) q) ∙ stored-first (a .answers) answers₀ in (
+        ap₂ (λ (x y : List ℕ). joined (texts requests x y)) rows (ap (λ (c : Service). c .orders) q) ∙ all-told .text,
+        λ h′ n f. let same : h′ ≡ a .head = cc in ap₂ (λ (x : Head) (y : Tables). bookIn x y) same left ∙ all-told .book,
+      )

@@ -370,11 +370,11 @@ unfolding askedIn rowsLent
 length-asked rows = length-tabulate (length rows / 3) (askedAt rows)
 
 module _ (requests : List ℕ) (h : Head) (t : Tables) (answers list : List ℕ) (k : plan.Ready h t) (e : Enough requests answers list) where
-  kept : Ready (keep h t)
+  pub kept : Ready (keep h t)
   unfolding bookOf
   kept = record { long = k .long; sound′ = k .sound′ }
 
-  abbrev a : All
+  abbrev pub a : All
   a = all (askedIn requests) h t list
 
   roomy : AllRoomy (askedIn requests) a
@@ -388,7 +388,7 @@ module _ (requests : List ℕ) (h : Head) (t : Tables) (answers list : List ℕ)
       common-passed t (bookIn h t) ((ShortList, ltb (length answers / 3) (length requests / 3)) ∷ []) (k .long) (k .sound′)
       ∙ rw (le-ltb (length answers / 3) (length requests / 3) (omega (arith, e .answered)))
 
-  served : serveCall requests h t answers list ≡ serveBy none a t answers list
+  pub served : serveCall requests h t answers list ≡ serveBy none a t answers list
   unfolding serveCall
   served = ap (λ (z : Option Refusal). serveBy z a t answers list) passed
 
@@ -396,7 +396,7 @@ module _ (requests : List ℕ) (h : Head) (t : Tables) (answers list : List ℕ)
   unfolding bookOf
   after-ready = let m = all-leads (askedIn requests) h t list in record { long = m .long ∙ k .long; sound′ = m .sound′ (k .sound′) }
 
-  rows-long : length (a .answers) ≡ length requests
+  pub rows-long : length (a .answers) ≡ length requests
   rows-long = omega (arith, roomy .long, length-asked requests, e .whole)
 
   used-few : a .used * 3 ≤ length list

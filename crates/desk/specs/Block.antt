@@ -105,6 +105,12 @@ rowsLeave (k ∷ a ∷ b ∷ rows) book = rowsLeave rows (rowTold k a b book .bo
 
 -- ---- serving them
 
+-- what was in the output buffer and the texts of the answers: some of it has gone out, and the buffer holds the others
+pub record Answers (requests : List ℕ) (book : Book) (held : List ℕ) (book′ : Book) (held′ : List ℕ) : Type 0 where
+  pub gone : List ℕ
+  pub text : gone ++ held′ ≡ held ++ rowsAnswers requests book
+  pub book≡ : book′ ≡ rowsLeave requests book
+
 -- what is lent to the call that serves a block: an answer row for each request, and order rows enough for all
 pub record Enough (requests answers orders : List ℕ) : Type 0 where
   pub whole : length requests % 3 ≡ 0

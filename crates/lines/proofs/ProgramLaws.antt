@@ -147,6 +147,27 @@ pub closed-taken : (k : ℕ) (x more : List ℕ)
     → linesIn (closed (x ++ more)) ≡ take k (linesIn x) ++ linesIn (closed (drop (span (take k (linesIn x))) x ++ more))
 closed-taken k x more = taken-by (λ y. linesIn (closed y)) (λ x l ls s z. ap linesIn (closed-behind l z) ∙ s .whole (closed z)) more k x
 
+-- behind whole lines, only the last line's newline may be lacking
+pub closed-left : (k : ℕ) (x : List ℕ) → drop (span (take k (linesIn x))) (closed x) ≡ closed (drop (span (take k (linesIn x))) x)
+unfolding span
+closed-left zero x = refl
+closed-left (suc k) x = go (linesIn x) refl (closed-left k)
+  where
+    go : (ms : List (List ℕ)) → linesIn x ≡ ms → ((y : List ℕ) → drop (span (take k (linesIn y))) (closed y) ≡ closed (drop (span (take k (linesIn y))) y))
+        → drop (span (take (suc k) ms)) (closed x) ≡ closed (drop (span (take (suc k) ms)) x)
+    go [] e r = refl
+    go (l ∷ ls) e r =
+        let s : Split x l ls = line-split x l ls e in
+        let n : ℕ = span (take k ls) in
+        let here : closed x ≡ l ++ (10 ∷ closed (s .rest)) = ap closed (s .text) ∙ closed-behind l (s .rest) in
+        let left : drop (length l + 1 + n) x ≡ drop n (s .rest) =
+        sym (drop-drop n (length l + 1) x) ∙ ap (λ (y : List ℕ). drop n y) (ap (λ (y : List ℕ). drop (length l + 1) y) (s .text) ∙ behind-line l (s .rest)) in
+        sym (drop-drop n (length l + 1) (closed x))
+        ∙ (ap (λ (y : List ℕ). drop n (drop (length l + 1) y)) here
+        ∙ (ap (λ (y : List ℕ). drop n y) (behind-line l (closed (s .rest)))
+        ∙ (ap (λ (y : List (List ℕ)). drop (span (take k y)) (closed (s .rest))) (sym (s .follow))
+        ∙ (r (s .rest) ∙ (ap (λ (y : List (List ℕ)). closed (drop (span (take k y)) (s .rest))) (s .follow) ∙ ap closed (sym left))))))
+
 -- ---- answers
 
 pub answers-append : (ls ms : List (List ℕ)) (b : Book) → answers (ls ++ ms) b ≡ answers ls b ++ answers ms (leaves ls b)
@@ -198,7 +219,7 @@ start-closed (a ∷ w) [] h e = ap closed (append-nil (a ∷ w)) ∙ closed-unfi
 start-closed (a ∷ w) (c ∷ cs) h e = closed-append (a ∷ w) c cs
 
 -- such a line is malformed, whatever its bytes are
-long-asks : (l : List ℕ) → 512 < length l → lineAsks l ≡ Malformed
+pub long-asks : (l : List ℕ) → 512 < length l → lineAsks l ≡ Malformed
 unfolding lineAsks
 long-asks l h = rw (lt-leb (length l) 512 h)
 

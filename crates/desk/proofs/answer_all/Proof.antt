@@ -50,7 +50,7 @@ loop-holds c =
       c .before .before .answer-rows .ensures,
       c .before .order-rows .ensures,
       c .output-bytes .ensures,
-      record { ready = s .ready; within = s .within; long = s .long; gathered = omega (arith, s .none) },
+      record { ready = s .ready; within = s .within; last = s .last; long = s .long; gathered = omega (arith, s .none) },
     )
 
 slice-aggregate-turn : tie.Need-slice-aggregate-turn Inv-loop μ-loop
@@ -89,7 +89,7 @@ loop-again c =
       i .7 ∙ sym (k .1 .1 .1 .1 .1 .1 .1 .0),
       i .8 ∙ sym (k .1 .1 .1 .1 .1 .1 .1 .1 .0),
       i .9 ∙ sym (k .1 .1 .1 .1 .1 .1 .1 .1 .1 .1 .0),
-      c .before .before .before .before .before .before .before .before .before .before .before .before .before .before .before .before .turn .ensures,
+      c .before .before .before .before .before .before .before .before .before .before .before .before .before .before .before .before .turn .ensures .0,
     )
 
 same-length : tie.Need-same-length Inv-loop μ-loop

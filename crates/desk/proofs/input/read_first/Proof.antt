@@ -1,25 +1,34 @@
 -- `desk::input::read_first` meets its contract. Assumes nothing.
 use native.Mathlib.Omega.{arith}
-use mathlib.Core.Path.{_≡_, refl}
+use mathlib.Core.Path.{_≡_, refl, sym, _∙_}
+use mathlib.Core.Bool.{true, true≢false}
 use lib.ListN.{length}
-use Rattle.desk.specs.Input.{Within}
+use Rattle.desk.specs.Input.{Within, Unless, Opens}
+use Rattle.desk.proofs.PendingLaws.{lacks-none, opens-none, opens-again}
 use Rattle.desk.proofs.input.read_first.Statement.{statement}
 use Rattle.desk.proofs.input.read_first.Tie as tie
 
 abbrev Inv-loop : tie.InvT-loop
-Inv-loop input₀ u₀ turns₀ input u turns = Within u input × (length input ≡ length input₀)
+Inv-loop input₀ u₀ turns₀ input u turns =
+    Within u input
+    × (length input ≡ length input₀)
+    × (u .failed ≡ true → u .ended ≡ true)
+    × Unless (u .failed) (Opens u input)
 
 abbrev μ-loop : tie.MeasureT-loop
 μ-loop input₀ u₀ turns₀ input u turns = turns
 
 loop-holds : tie.Need-loop-holds Inv-loop μ-loop
-loop-holds c = (record { ordered = omega arith; inside = omega arith }, refl)
+loop-holds c = (record { ordered = omega arith; inside = omega arith }, refl, λ h. absurd (true≢false (sym h)), opens-none _)
 
 lacks-line-requires : tie.Need-lacks-line-requires Inv-loop μ-loop
 lacks-line-requires c κs = c .before .before .loop .inv .0
 
 read-more-requires : tie.Need-read-more-requires Inv-loop μ-loop
-read-more-requires c κs = (c .before .before .before .before .before .loop .inv .0, omega arith)
+read-more-requires c κs =
+    let i = c .before .before .before .before .before .loop in
+    let lacks = sym (c .before .before .lacks-line .ensures) ∙ c .before .if1 .taken in
+    (i .inv .0, (omega arith, lacks-none (i .u) (i .input) lacks .1))
 
 sub-turns : tie.Need-sub-turns Inv-loop μ-loop
 sub-turns c = omega arith
@@ -28,19 +37,23 @@ loop-less : tie.Need-loop-less Inv-loop μ-loop
 loop-less c = omega arith
 
 loop-again : tie.Need-loop-again Inv-loop μ-loop
-loop-again c = (c .before .before .read-more .ensures, omega arith)
+loop-again c =
+    let i = c .before .before .before .before .before .before .before .before .loop in
+    let more = c .before .before .read-more in
+    let lacks = sym (c .before .before .before .before .before .lacks-line .ensures) ∙ c .before .before .before .before .if1 .taken in
+    (more .ensures .within, omega arith, more .ensures .over, opens-again (i .u) (i .input) (more .result) (more .last .0) (i .inv .2) (i .inv .3) lacks (more .ensures))
 
 same-length : tie.Need-same-length Inv-loop μ-loop
 same-length c = omega arith
 
 returns : tie.Need-returns Inv-loop μ-loop
-returns c = c .before .before .before .before .loop .inv .0
+returns c = (c .before .before .before .before .loop .inv .0, c .before .before .before .before .loop .inv .3)
 
 same-length-2 : tie.Need-same-length-2 Inv-loop μ-loop
 same-length-2 c = omega arith
 
 returns-2 : tie.Need-returns-2 Inv-loop μ-loop
-returns-2 c = c .before .loop .inv .0
+returns-2 c = (c .before .loop .inv .0, c .before .loop .inv .3)
 
 pub read-first-spec : {M : Type 1} → statement M
 read-first-spec =
