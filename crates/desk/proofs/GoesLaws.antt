@@ -24,7 +24,7 @@ use Rattle.theorems.proofs.RunLaws.{fresh, fresh-book}
 use Rattle.desk.specs.Input.{between, start, pending, whole, Unless, More, Got, Opens, modeTaken}
 use Rattle.desk.specs.Block.{numbersOf, rowFor, rowsOf, lineCount, Takes, Reads, rowsAnswers, rowsLeave, Answers}
 use Rattle.desk.specs.Output.{filledTo, failedIn, Gathered, Gathers}
-use Rattle.desk.specs.Turn.{Printing, Desk, desk, Follows, stays, reads, Turned, Finished, Goes, Awaits}
+use Rattle.desk.specs.Turn.{Printing, Desk, desk, Follows, stays, reads, Turned, Finished, Goes, Run, rests, Ran, Runs, Awaits}
 use Rattle.desk.specs.declared.State.{State}
 use Rattle.desk.specs.declared.block.Block.{Block}
 use Rattle.desk.specs.declared.input.Unread.{Unread}
@@ -32,8 +32,8 @@ use Rattle.desk.specs.declared.input.Taken.{Taken}
 use Rattle.desk.specs.declared.output.Printed.{Printed}
 use Rattle.desk.specs.declared.output.Printed.the-variants.{To, Failed}
 use Rattle.desk.proofs.AnswerLaws.{lines-rows, lines-leave}
-use Rattle.desk.proofs.PendingLaws.{start-long, start-off, pending-lines, pending-taken, whole-taken, take-behind, none-left, Comes}
-use Rattle.desk.proofs.ProgramLaws.{still, Begins}
+use Rattle.desk.proofs.PendingLaws.{start-long, start-off, pending-lines, pending-taken, whole-taken, take-behind, none-left, unless-not, Comes}
+use Rattle.desk.proofs.ProgramLaws.{still, run-then, Begins}
 
 -- ---- a wait
 
@@ -206,6 +206,41 @@ module _ (s : State) (t : Tables) (input out : List ℕ) (last : whole (pending 
             → Unless x (Goes (desk s t input out) (desk e t′ now out′) (e .going))
         go true f a = tt
         go false f a = goes f a
+
+-- ---- all turns
+
+-- the buffer holds nothing at the start
+pub ran-none : (s : State) (t : Tables) (input out : List ℕ) → s .filled ≡ 0 → s .going ≡ true → Unless (s .failed) (Ran (desk s t input []) (desk s t input out) (s .going))
+ran-none s t input out e g = go (s .failed)
+  where
+    same : desk s t input [] ≡ desk s t input out
+    same = rw e
+
+    go : (z : Bool) → Unless z (Ran (desk s t input []) (desk s t input out) (s .going))
+    go true = tt
+    go false =
+        record {
+          came = [];
+          gone = [];
+          run = subst (λ (x : Desk). Run (desk s t input []) [] [] x) same rests;
+          stops = λ h. absurd (true≢false (sym g ∙ h));
+        }
+
+-- one turn more
+pub ran-more : (d : Desk) (s : State) (e f : Desk) (failed going : Bool) → s .going ≡ true → (s .going ≡ true → s .failed ≡ false) → Unless (s .failed) (Ran d e (s .going))
+    → Unless failed (Goes e f going) → Unless failed (Ran d f going)
+ran-more d s e f true going g w r t = tt
+ran-more d s e f false going g w r t =
+    let before : Ran d e (s .going) = unless-not (w g) r in
+    record { came = before .came ++ t .turned .came; gone = before .gone ++ t .turned .gone; run = run-then (before .run) (t .turned); stops = t .stops }
+
+-- whatever the buffer holds
+pub ran-runs : (d : Desk) (s : State) (t : Tables) (input out : List ℕ) → Unless (s .failed) (Ran d (desk s t input out) (s .going)) → Unless (s .failed) (Runs d s t input)
+ran-runs d s t input out r = go (s .failed) r
+  where
+    go : (z : Bool) → Unless z (Ran d (desk s t input out) (s .going)) → Unless z (Runs d s t input)
+    go true r = tt
+    go false r = record { out = out; ran = r }
 
 -- ---- the first line
 

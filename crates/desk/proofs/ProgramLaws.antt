@@ -1,7 +1,7 @@
 -- What the turns print is what the program's definition prints for all that they read (`program-by-turns`).
 -- Assumes nothing.
 use Prim.Native.Nat.{ℕ}
-use mathlib.Core.Path.{_≡_, refl, sym, ap, ap₂, _∙_}
+use mathlib.Core.Path.{_≡_, refl, sym, ap, ap₂, subst, _∙_}
 use mathlib.Core.Bool.{Bool, true, true≢false}
 use mathlib.Core.List.{List, [], _∷_, _++_, append-assoc, append-nil}
 use lib.ListN.{take, drop}
@@ -9,7 +9,7 @@ use Rattle.rules.specs.Book.{Book}
 use Rattle.lines.specs.Program.{linesIn, closed, span, answers, leaves, answered, program, no14}
 use Rattle.lines.proofs.ProgramLaws.{closed-taken, answers-append}
 use Rattle.desk.proofs.PendingLaws.{Comes, kept-answers, read-closed}
-use Rattle.desk.specs.Turn.{Desk, Follows, stays, reads, Turned, Finished}
+use Rattle.desk.specs.Turn.{Desk, Follows, stays, reads, Turned, Finished, Run, rests, turns}
 
 -- ---- one turn
 
@@ -39,11 +39,6 @@ turned-still d e t more h =
 
 -- ---- all turns
 
--- turns one after the other: what came and what has gone
-pub data Run : Desk → List ℕ → List ℕ → Desk → Type 0 where
-  rests : {d : Desk} → Run d [] [] d
-  turns : {d e f : Desk} {came gone : List ℕ} (t : Turned d e) → Run e came gone f → Run d (t .came ++ came) (t .gone ++ gone) f
-
 turned-ended : (d e : Desk) (t : Turned d e) → d .ended ≡ true → (t .came ≡ []) × (e .ended ≡ true)
 turned-ended d e t h = go (t .rest)
   where
@@ -57,6 +52,14 @@ run-ended (turns {d} {e} {f} {came} {gone} t r) h =
     let (c, g) = turned-ended d e t h in
     let (k, n) = run-ended r g in
     (ap₂ (λ (x y : List ℕ). x ++ y) c k, n)
+
+-- one turn more
+pub run-then : {d e f : Desk} {came gone : List ℕ} → Run d came gone e → (t : Turned e f) → Run d (came ++ t .came) (gone ++ t .gone) f
+run-then {d} {e} {f} rests t =
+    subst (λ (x : List ℕ). Run e x (t .gone) f) (append-nil (t .came)) (subst (λ (x : List ℕ). Run e (t .came ++ []) x f) (append-nil (t .gone)) (turns t rests))
+run-then {d} {e} {f} (turns {came = came} {gone = gone} u r) t =
+    subst (λ (x : List ℕ). Run d x ((u .gone ++ gone) ++ t .gone) f) (sym (append-assoc (u .came) came (t .came)))
+    (subst (λ (x : List ℕ). Run d (u .came ++ (came ++ t .came)) x f) (sym (append-assoc (u .gone) gone (t .gone))) (turns u (run-then r t)))
 
 -- nothing of all this depends on what comes later
 pub run-still : {d f : Desk} {came gone : List ℕ} → Run d came gone f → (more : List ℕ) → Comes (f .ended) more → still d (came ++ more) ≡ gone ++ still f more

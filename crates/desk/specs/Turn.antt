@@ -23,6 +23,8 @@ pub record Starts (s : State) (t : Tables) (input : List ℕ) : Type 0 where
   pub last : whole (pending (s .unread) input) (s .unread .ended)
   pub long : 512 < length input
   pub none : s .filled ≡ 0
+  pub going : s .going ≡ true
+  pub fine : s .failed ≡ false
 
 pub record Holds (s : State) (t : Tables) (input out : List ℕ) : Type 0 where
   pub ready : Ready (s .head) t
@@ -30,6 +32,7 @@ pub record Holds (s : State) (t : Tables) (input out : List ℕ) : Type 0 where
   pub last : whole (pending (s .unread) input) (s .unread .ended)
   pub long : 512 < length input
   pub gathered : s .filled ≤ length out
+  pub works : s .going ≡ true → s .failed ≡ false
 
 -- the head and the buffers of a state that waits for input
 pub record Waits (s : State) (input out : List ℕ) : Type 0 where
@@ -37,6 +40,7 @@ pub record Waits (s : State) (input out : List ℕ) : Type 0 where
   pub last : whole (pending (s .unread) input) (s .unread .ended)
   pub long : 512 < length input
   pub gathered : s .filled ≤ length out
+  pub works : s .going ≡ true → s .failed ≡ false
 
 -- the lists of a block
 pub record Lent (requests answers orders : List ℕ) : Type 0 where
@@ -89,6 +93,22 @@ pub record Finished (d : Desk) : Type 0 where
 pub record Goes (d e : Desk) (going : Bool) : Type 0 where
   pub turned : Turned d e
   pub stops : going ≡ false → Finished e
+
+-- turns one after the other, with all that came and all that has gone
+pub data Run : Desk → List ℕ → List ℕ → Desk → Type 0 where
+  rests : {d : Desk} → Run d [] [] d
+  turns : {d e f : Desk} {came gone : List ℕ} (t : Turned d e) → Run e came gone f → Run d (t .came ++ came) (t .gone ++ gone) f
+
+pub record Ran (d e : Desk) (going : Bool) : Type 0 where
+  pub came : List ℕ
+  pub gone : List ℕ
+  pub run : Run d came gone e
+  pub stops : going ≡ false → Finished e
+
+-- to a state, with some content of the output buffer
+pub record Runs (d : Desk) (s : State) (t : Tables) (input : List ℕ) : Type 0 where
+  pub out : List ℕ
+  pub ran : Ran d (desk s t input out) (s .going)
 
 -- a wait for input, after all that was held has gone out
 pub record Awaits (s : State) (input : List ℕ) (r : State) (now : List ℕ) : Type 0 where

@@ -36,7 +36,7 @@ ghost use Rattle.plan.specs.Judge.{Ready};
 ghost use Rattle.lines.specs.Program.{linesIn};
 ghost use Rattle.desk.specs.Input.{pending, Unless};
 ghost use Rattle.desk.specs.Block.{Enough, Answers};
-ghost use Rattle.desk.specs.Turn.{Starts, Holds, Waits, Lent, Printing, desk, Goes, Awaits};
+ghost use Rattle.desk.specs.Turn.{Starts, Holds, Waits, Lent, Printing, desk, Goes, Runs, Awaits};
 
 // The head of the empty book.
 fn empty_head(mode: Mode) -> Head
@@ -203,8 +203,9 @@ fn answer_all(
     ot: &mut [u8],
     rs: &mut [u8],
     input: &mut [u8],
-)
+) -> State
     requires { ⌜ Starts s (tables (now iv) (now it) (now ov) (now ot) (now rs)) (now input) ⌝ }
+    ensures { λ r. ⌜ Unless (r .failed) (Runs (desk s (tables (now (iv .entry)) (now (it .entry)) (now (ov .entry)) (now (ot .entry)) (now (rs .entry))) (now (input .entry)) []) r (tables (now (iv .exit)) (now (it .exit)) (now (ov .exit)) (now (ot .exit)) (now (rs .exit))) (now (input .exit))) ⌝ }
 {
     let mut requests = memory::request_rows();
     let mut answers = memory::answer_rows();
@@ -228,6 +229,7 @@ fn answer_all(
         );
         turns -= 1;
     }
+    state
 }
 
 fn main() {

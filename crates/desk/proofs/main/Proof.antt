@@ -84,6 +84,8 @@ answer-all-requires c κs =
       last = mode-whole _ _ (unless-not (c .before .before .before .before .before .before .before .before .before .before .before .before .before .before .before .before .before .before .if1 .left) (first .ensures .1)) _ _ (taken .ensures .1 .1) (c .before .before .before .before .before .before .before .before .before .before .before .before .before .first .given .1);
       long = omega (arith, first .kept .0, c .before .before .before .before .before .before .before .before .before .before .before .before .before .before .before .before .before .before .before .before .before .before .input-bytes .ensures);
       none = refl;
+      going = refl;
+      fine = refl;
     }
 
 returns-3 : tie.Need-returns-3

@@ -3,7 +3,8 @@ use Rattle.desk.proofs.TurnLaws.{within-by, last-by, holds-waits, enoug
 use Rattle.desk.proofs.GoesLaws.{block-none, block-whole, waits-goes, answers-goes}
 use lib.Seq.{length-take-le}
 use native.Mathlib.Omega.{arith}
-use mathlib.Core.Path.{refl, sym}
+use mathlib.Core.Path.{refl, sym, _∙_}
+use borrow.Author.Tests.{not-true}
 use mathlib.Core.Bool.{true, false}
 use Rattle.rules.specs.Bytes.{tables}
 use borrow.Author.Needs.{needs}
@@ -21,7 +22,7 @@ wait-requires c κs =
     let s = c .before .before .before .before .before .before .before .before .before .before .before .before .before .before .before .before .before .before .before .before .before in
     let read = c .before .before .before .before .before .before .before .before .read-block in
     let reads′ = read .ensures .1 .1 .1 in (
-      record { within = read .ensures .0; last = block-whole _ _ _ _ reads′ (s .pre .0 .last); long = s .pre .0 .long; gathered = s .pre .0 .gathered },
+      record { within = read .ensures .0; last = block-whole _ _ _ _ reads′ (s .pre .0 .last); long = s .pre .0 .long; gathered = s .pre .0 .gathered; works = λ h. refl },
       block-none _ _ _ _ reads′ (omega (arith, c .before .before .if1 .taken)),
     )
 
@@ -103,6 +104,7 @@ returns-2 c =
         last = last-by (a .input .now) (done .ensures .1 .0) (block-whole _ _ _ _ (read .ensures .1 .1 .1) (s .pre .0 .last));
         long = s .pre .0 .long;
         gathered = done .ensures .1 .1 .0;
+        works = λ h. not-true _ (sym (done .ensures .1 .1 .1 .0) ∙ h);
       },
       answers-goes (a .s) (tables (a .iv .now) (a .it .now) (a .ov .now) (a .ot .now) (a .rs .now)) (a .input .now) (a .out .now) (s .pre .0 .last) (read .result) (read .last .1 .1 .0) (read .ensures .1 .1 .1) (done .result) (tables (done .last .1 .0) (done .last .1 .1 .0) (done .last .1 .1 .1 .0) (done .last .1 .1 .1 .1 .0) (done .last .1 .1 .1 .1 .1 .0)) (a .input .now) (done .last .1 .1 .1 .1 .1 .1 .1 .1 .1 .0) (done .ensures .1 .0) refl (done .ensures .1 .1 .1 .0) (done .ensures .1 .1 .1 .1),
     )

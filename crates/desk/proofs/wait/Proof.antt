@@ -1,5 +1,7 @@
 -- `desk::wait` meets its contract. Assumes nothing.
 use mathlib.Core.Path.{refl, sym}
+use mathlib.Core.Bool.{true≢false}
+use borrow.Author.Tests.{not-true}
 use native.Mathlib.Omega.{arith}
 use lib.Seq.{length-take-le}
 use borrow.Author.Needs.{needs}
@@ -22,7 +24,7 @@ same-length c = search needs
 returns : tie.Need-returns
 returns c =
     let w = c .before .before .before .before .before .before .before .pre .0 in
-    (record { within = w .within; last = w .last; long = w .long; gathered = omega arith }, (refl, tt))
+    (record { within = w .within; last = w .last; long = w .long; gathered = omega arith; works = λ h. absurd (true≢false (sym h)) }, (refl, tt))
 
 same-length-2 : tie.Need-same-length-2
 same-length-2 c = search needs
@@ -31,7 +33,7 @@ returns-2 : tie.Need-returns-2
 returns-2 c =
     let s = c .before .before .before .before .before .before .before .before in
     let w = s .pre .0 in
-    (record { within = w .within; last = w .last; long = w .long; gathered = omega arith }, (refl, awaits-end (s .args .s) (s .args .input .now) _ (c .if2 .taken)))
+    (record { within = w .within; last = w .last; long = w .long; gathered = omega arith; works = λ h. refl }, (refl, awaits-end (s .args .s) (s .args .input .now) _ (c .if2 .taken)))
 
 read-more-requires : tie.Need-read-more-requires
 read-more-requires c κs =
@@ -48,7 +50,7 @@ returns-3 : tie.Need-returns-3
 returns-3 c =
     let s = c .before .before .before .before .before .before .before .before .before .before .before .before in
     let got = c .before .before .read-more in (
-      record { within = got .ensures .within; last = got .ensures .last; long = omega (arith, got .kept .0, s .pre .0 .long); gathered = omega arith },
+      record { within = got .ensures .within; last = got .ensures .last; long = omega (arith, got .kept .0, s .pre .0 .long); gathered = omega arith; works = λ h. not-true _ h },
       (refl, awaits-read (s .args .s) (s .args .input .now) _ (got .result) (got .last .0) (c .before .before .before .before .if2 .left) (s .pre .1) (got .ensures)),
     )
 
