@@ -1,16 +1,16 @@
 -- The rows of a block are answered as the program's definition answers their lines, with the same texts and the same book; so it does not matter how the
 -- lines are put into blocks.
 -- Assumes nothing.
-use Prim.Native.Nat.{ℕ, zero, suc, _+_, _*_, _/_, _%_, _≤_, _<_}
+use Prim.Native.Nat.{ℕ, _+_, _*_, _%_, _≤_, _<_}
 use mathlib.Core.Path.{_≡_, refl, sym, ap, ap₂, subst, _∙_}
-use mathlib.Core.Bool.{Bool, true, false, cond}
+use mathlib.Core.Bool.{Bool, true, false}
 use mathlib.Core.List.{List, [], _∷_, _++_, append-assoc}
 use native.Mathlib.Omega.{arith}
 use lib.Dec.{eqb}
-use lib.ListN.{length, take, drop, getD}
+use lib.ListN.{length, take, drop}
 use lib.Seq.{take-at, drop-at, length-take-le}
 use borrow.Author.Tests.{eqb-true, ne-eqb}
-use Rattle.rows.specs.Number.{stored, joined}
+use Rattle.rows.specs.Number.{joined}
 use Rattle.rows.proofs.Laws.{length-stored, stored-first}
 use Rattle.rules.specs.Lists.{tabulate, tabulateFrom}
 use Rattle.rules.specs.Book.{Book}
@@ -30,7 +30,7 @@ use Rattle.lines.specs.declared.request.Line.{Line}
 use Rattle.lines.specs.declared.request.Line.the-variants.{Asks, Malformed}
 use Rattle.desk.specs.Block.{Enough, rowOf, rowsOf, rowTold, rowsAnswers, rowsLeave}
 use Rattle.desk.specs.Output.{told, texts}
-use Rattle.desk.proofs.BlockLaws.{mostAsked, mostAll, most-rows, asked-cons, Roomy, one-roomy, rest-room, kept, served, rows-long}
+use Rattle.desk.proofs.BlockLaws.{mostAsked, mostAll, most-rows, asked-cons, Roomy, one-roomy, rest-room, kept, served, rows-long, block-served}
 
 -- ---- one row
 
@@ -171,4 +171,28 @@ module _ (requests : List ℕ) (h : Head) (t : Tables) (answers₀ list : List �
       ap₂ (λ (n : ℕ) (l : List ℕ). take n l) (sym (rows-long requests h t answers₀ list k e)) (ap (λ (c : Service). c .answers) q) ∙ stored-first (a .answers) answers₀ in (
         ap₂ (λ (x y : List ℕ). joined (texts requests x y)) rows (ap (λ (c : Service). c .orders) q) ∙ all-told .text,
         λ h′ n f. let same : h′ ≡ a .head = cc in ap₂ (λ (x : Head) (y : Tables). bookIn x y) same left ∙ all-told .book,
+      )
+
+-- ---- one call or two
+
+module _ (xs ys : List ℕ) (w : length xs % 3 ≡ 0) (h : Head) (t : Tables) (k : plan.Ready h t) where
+  -- the rows of both in one call, or the first and then the others on what is left: the same texts, and the same book
+  pub serve-parts : (answers₀ list : List ℕ) → Enough (xs ++ ys) answers₀ list → {s : Served} {t′ : Tables} {answers′ list′ : List ℕ}
+      → serving s t′ answers′ list′ ≡ serveCall (xs ++ ys) h t answers₀ list
+      → (answers₁ list₁ : List ℕ) → Enough xs answers₁ list₁ → {h₁ : Head} {n₁ : ℕ} {t₁ : Tables} {answers₁′ list₁′ : List ℕ}
+      → serving (Done h₁ n₁) t₁ answers₁′ list₁′ ≡ serveCall xs h t answers₁ list₁
+      → (answers₂ list₂ : List ℕ) → Enough ys answers₂ list₂ → {h₂ : Head} {n₂ : ℕ} {t₂ : Tables} {answers₂′ list₂′ : List ℕ}
+      → serving (Done h₂ n₂) t₂ answers₂′ list₂′ ≡ serveCall ys h₁ t₁ answers₂ list₂
+      → (joined (texts (xs ++ ys) (take (length (xs ++ ys)) answers′) list′)
+      ≡ joined (texts xs (take (length xs) answers₁′) list₁′) ++ joined (texts ys (take (length ys) answers₂′) list₂′))
+      × ((h′ : Head) (n : ℕ) → s ≡ Done h′ n → bookIn h′ t′ ≡ bookIn h₂ t₂)
+  serve-parts answers₀ list e p answers₁ list₁ e₁ {h₁} {n₁} {t₁} p₁ answers₂ list₂ e₂ {h₂} {n₂} {t₂} p₂ =
+      let b : Book = bookIn h t in
+      let whole = serve-told (xs ++ ys) h t answers₀ list k e p in
+      let one′ = serve-told xs h t answers₁ list₁ k e₁ p₁ in
+      let k₁ : plan.Ready h₁ t₁ = block-served xs h t answers₁ list₁ k e₁ p₁ .serves in
+      let left : bookIn h₁ t₁ ≡ rowsLeave xs b = one′ .1 h₁ n₁ refl in
+      let two = serve-told ys h₁ t₁ answers₂ list₂ k₁ e₂ p₂ in (
+        whole .0 ∙ (answers-rows xs ys w b ∙ sym (ap₂ (λ (u v : List ℕ). u ++ v) (one′ .0) (two .0 ∙ ap (rowsAnswers ys) left))),
+        λ h′ n f. whole .1 h′ n f ∙ (leave-rows xs ys w b ∙ sym (two .1 h₂ n₂ refl ∙ ap (rowsLeave ys) left)),
       )

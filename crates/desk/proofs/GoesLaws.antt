@@ -1,30 +1,28 @@
 -- What the parts of a turn promise adds up to what the turn promises.
 -- Assumes nothing.
-use Prim.Native.Nat.{ℕ, zero, suc, _+_, _*_, _<_}
+use Prim.Native.Nat.{ℕ, zero, suc, _+_, _*_}
 use mathlib.Core.Path.{_≡_, refl, sym, ap, ap₂, subst, _∙_}
-use mathlib.Core.Bool.{Bool, true, false, cond, not, true≢false}
-use mathlib.Core.List.{List, [], _∷_, _++_, append-assoc, append-nil}
+use mathlib.Core.Bool.{Bool, true, false, _&&_, not, true≢false}
+use mathlib.Core.List.{List, [], _∷_, _++_, append-assoc}
 use native.Mathlib.Omega.{arith}
-use lib.Dec.{eqb, leb}
 use lib.ListN.{length, take, drop, length-append}
-use borrow.Author.Tests.{ne-eqb}
 use Rattle.rows.specs.Number.{joined}
 use Rattle.rules.specs.Book.{Book, emptyBook}
 use Rattle.rules.specs.Bytes.{Tables, bookIn, headOf}
 use Rattle.rules.specs.declared.Mode.{Mode}
 use Rattle.rules.specs.declared.Head.{Head}
 use Rattle.lines.specs.Request.{lineAsks, firstLine}
-use Rattle.lines.specs.Program.{linesIn, closed, span, answers, leaves, started, answered, program}
+use Rattle.lines.specs.Program.{linesIn, closed, span, answers, leaves, started, answered, program, no14}
 use Rattle.lines.specs.declared.request.First.{First}
 use Rattle.lines.specs.declared.request.First.the-variants.{Of}
 use Rattle.lines.specs.declared.request.First.the-variants as firsts
-use Rattle.lines.proofs.ProgramLaws.{behind, closed-taken, long-asks}
+use Rattle.lines.proofs.ProgramLaws.{behind, closed-taken, long-asks, long-first}
 use Rattle.rules.specs.Runs.{bookOf}
 use Rattle.theorems.proofs.RunLaws.{fresh, fresh-book}
-use Rattle.desk.specs.Input.{between, start, pending, whole, Unless, More, Got, Opens, modeTaken}
+use Rattle.desk.specs.Input.{between, start, pending, Whole, noLine, lacksLine, Unless, More, Got, Opens, modeTaken}
 use Rattle.desk.specs.Block.{numbersOf, rowFor, rowsOf, lineCount, Takes, Reads, rowsAnswers, rowsLeave, Answers}
-use Rattle.desk.specs.Output.{filledTo, failedIn, Gathered, Gathers}
-use Rattle.desk.specs.Turn.{Printing, Desk, desk, Follows, stays, reads, Turned, Finished, Goes, Run, rests, Ran, Runs, Awaits}
+use Rattle.desk.specs.Output.{filledTo, failedIn, Gathers}
+use Rattle.desk.specs.Turn.{Printing, Desk, desk, Follows, stays, reads, Finished, Goes, Run, rests, Ran, Runs, Awaits}
 use Rattle.desk.specs.declared.State.{State}
 use Rattle.desk.specs.declared.block.Block.{Block}
 use Rattle.desk.specs.declared.input.Unread.{Unread}
@@ -32,8 +30,8 @@ use Rattle.desk.specs.declared.input.Taken.{Taken}
 use Rattle.desk.specs.declared.output.Printed.{Printed}
 use Rattle.desk.specs.declared.output.Printed.the-variants.{To, Failed}
 use Rattle.desk.proofs.AnswerLaws.{lines-rows, lines-leave}
-use Rattle.desk.proofs.PendingLaws.{start-long, start-off, pending-lines, pending-taken, whole-taken, take-behind, none-left, unless-not, Comes}
-use Rattle.desk.proofs.ProgramLaws.{still, run-then, Begins}
+use Rattle.desk.proofs.PendingLaws.{start-long, start-none, start-off, pending-lines, pending-taken, whole-taken, take-behind, none-left, unless-not, Comes}
+use Rattle.desk.proofs.ProgramLaws.{still, run-then, Begins, program-by-turns}
 
 -- ---- a wait
 
@@ -130,12 +128,12 @@ module _ (u : Unread) (input : List ℕ) (b : Block) (requests : List ℕ) (r : 
         ap linesIn block-same ∙ (pending-lines u input ∙ ap (behind (start (u .cut))) none′)
 
   -- the last line keeps its newline
-  pub block-whole : whole (pending u input) (u .ended) → whole (pending (b .unread) input) (b .unread .ended)
+  pub block-whole : Whole (pending u input) (u .ended) → Whole (pending (b .unread) input) (b .unread .ended)
   block-whole h e = ap closed block-left ∙ (whole-taken u input (b .rows) h (sym (r .ended≡) ∙ e) ∙ sym block-left)
 
 -- ---- a turn
 
-module _ (s : State) (t : Tables) (input out : List ℕ) (last : whole (pending (s .unread) input) (s .unread .ended)) (b : Block) (requests : List ℕ)
+module _ (s : State) (t : Tables) (input out : List ℕ) (last : Whole (pending (s .unread) input) (s .unread .ended)) (b : Block) (requests : List ℕ)
     (r : Reads (s .unread) input b requests) where
   module _ (e : State) (t′ : Tables) (now out′ : List ℕ) where
     -- that waits
@@ -284,7 +282,7 @@ named u input m r e f = go (u .cut) refl (linesIn (between (u .from) (u .to) inp
 
 module _ (u : Unread) (input : List ℕ) (o : Opens u input) (m : Mode) (r : Taken) (e : r ≡ modeTaken u (u .cut) (linesIn (between (u .from) (u .to) input)))
     (f : r .first ≡ Of m) where
-  pub mode-whole : whole (pending (r .unread) input) (r .unread .ended)
+  pub mode-whole : Whole (pending (r .unread) input) (r .unread .ended)
   mode-whole h =
       let n : Named u input m (r .unread) = named u input m r e f in
       ap closed (n .left) ∙ (whole-taken u input 1 (o .last) (sym (n .ended) ∙ h) ∙ sym (n .left))
@@ -312,3 +310,40 @@ module _ (u : Unread) (input : List ℕ) (o : Opens u input) (m : Mode) (r : Tak
           ∙ (ap (λ (x : First). started x rest) (n .names)
           ∙ (ap₂ (λ (x : List ℕ) (y : Book). answers (linesIn (closed (x ++ more))) y) here (sym book)
           ∙ ap (λ (k : ℕ). take k out ++ answers (linesIn (closed (pending (s .unread) input ++ more))) (bookIn (s .head) t)) (sym fi)))))
+
+  -- from there the turns print what the program prints for all that came
+  pub prints-program : (s : State) (t : Tables) → s .head ≡ headOf (emptyBook (m .0)) → s .unread ≡ r .unread → s .filled ≡ 0 → {last : State} {t′ : Tables} {now : List ℕ}
+      → (n : Runs (desk s t input []) last t′ now) → last .going ≡ false → n .ran .gone ≡ program (o .came ++ n .ran .came)
+  prints-program s t hd un fi n g = program-by-turns (mode-begins s t [] hd un fi) (n .ran .run) (n .ran .stops g)
+
+-- a first line that names no mode: `no 14`, whatever follows
+module _ (u : Unread) (input : List ℕ) (o : Opens u input) (r : Taken) (e : r ≡ modeTaken u (u .cut) (linesIn (between (u .from) (u .to) input)))
+    (f : r .first ≡ firsts.Malformed) (h : lacksLine u input ≡ false) where
+  pub prints-refusal : (more : List ℕ) → Comes (u .ended) more → program (o .came ++ more) ≡ no14
+  unfolding pending answered started lacksLine noLine linesIn closed
+  prints-refusal more c = o .same more c ∙ go (u .cut) refl (linesIn mine) refl (sym (ap (λ (x : Taken). x .first) e) ∙ f)
+    where
+      mine : List ℕ
+      mine = between (u .from) (u .to) input
+
+      lines : {z : Bool} {ls : List (List ℕ)} → u .cut ≡ z → linesIn mine ≡ ls → linesIn (pending u input) ≡ behind (start z) ls
+      lines k p = pending-lines u input ∙ ap₂ (λ (x : Bool) (y : List (List ℕ)). behind (start x) y) k p
+
+      over : (z : Bool) → u .ended ≡ z → linesIn (pending u input) ≡ [] → u .ended ≡ true
+      over true x y = x
+      over false x y = absurd (true≢false (sym (ap₂ (λ (b : Bool) (ls : List (List ℕ)). not b && noLine ls) x y) ∙ h))
+
+      go : (z : Bool) → u .cut ≡ z → (ls : List (List ℕ)) → linesIn mine ≡ ls → modeTaken u z ls .first ≡ firsts.Malformed
+          → answered (linesIn (closed (pending u input ++ more))) ≡ no14
+      go true k ls p q =
+          ap (λ (z : Bool). answered (linesIn (closed ((start z ++ mine) ++ more)))) k
+          ∙ (ap (λ (x : List ℕ). answered (linesIn (closed x))) (append-assoc (start true) mine more)
+          ∙ long-first (start true) (mine ++ more) (omega (arith, start-long)) (start-none true))
+      go false k [] p q =
+          let ended : u .ended ≡ true = over (u .ended) refl (lines k p) in
+          let nothing : pending u input ≡ [] = none-left (pending u input) (lines k p) (o .last ended) in
+          ap₂ (λ (x y : List ℕ). answered (linesIn (closed (x ++ y)))) nothing (c ended)
+      go false k (l ∷ ls) p q =
+          let rest : List (List ℕ) = linesIn (closed (drop (span (take 1 (linesIn (pending u input)))) (pending u input) ++ more)) in
+          ap answered (closed-taken 1 (pending u input) more)
+          ∙ (ap (λ (x : List (List ℕ)). answered (take 1 x ++ rest)) (lines k p ∙ ap (λ (x : List ℕ). (x ++ l) ∷ ls) start-off) ∙ ap (λ (x : First). started x rest) q)

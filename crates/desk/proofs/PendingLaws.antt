@@ -16,7 +16,7 @@ use Rattle.rules.specs.Book.{Book}
 use Rattle.lines.specs.Request.{longer}
 use Rattle.lines.specs.Program.{newline, linesIn, closed, span, answers, answered, program}
 use Rattle.lines.proofs.ProgramLaws.{behind, start-lines, start-closed, closed-left, closed-twice, long-start, long-first}
-use Rattle.desk.specs.Input.{between, Within, start, pending, whole, none, lacksLine, kept, Unless, More, Got, Opens, tooLong, Kept, Keeps, Ends}
+use Rattle.desk.specs.Input.{between, Within, start, pending, Whole, noLine, lacksLine, kept, Unless, More, Got, Opens, tooLong, Kept, Keeps, Ends}
 use Rattle.desk.specs.declared.input.Unread.{Unread}
 use Rattle.desk.proofs.LineLaws.{drop-take, part-long, part-next, part-none}
 
@@ -114,7 +114,7 @@ module _ (u : Unread) (input : List ℕ) where
           ∙ (sym (drop-drop n (length st) (st ++ part)) ∙ (ap (λ (x : List ℕ). drop n x) (drop-at st part (length st) refl) ∙ drop-part n))))
 
   -- the last line keeps its newline
-  pub whole-taken : (k : ℕ) {ended : Bool} → whole (pending u input) ended → whole (drop (span (take k (linesIn (pending u input)))) (pending u input)) ended
+  pub whole-taken : (k : ℕ) {ended : Bool} → Whole (pending u input) ended → Whole (drop (span (take k (linesIn (pending u input)))) (pending u input)) ended
   whole-taken k h e = sym (closed-left k (pending u input)) ∙ ap (λ (x : List ℕ). drop (span (take k (linesIn (pending u input)))) x) (h e)
 
 -- ---- an unfinished line
@@ -261,28 +261,28 @@ module _ (u : Unread) (input : List ℕ) where
 
   module _ (w : Within u input) (k : ℕ) (f : k ≡ first newline (between (u .from) (u .to) input)) (i : k ≤ length (between (u .from) (u .to) input)) where
     pub lacks-whole : u .ended ≡ false → eqb k (u .to - u .from) ≡ lacksLine u input
-    unfolding lacksLine none
+    unfolding lacksLine noLine
     lacks-whole e =
         go (eqb k (u .to - u .from)) refl
-        ∙ (ap none (sym (pending-lines u input)) ∙ ap (λ (z : Bool). not z && none (linesIn (pending u input))) (sym e))
+        ∙ (ap noLine (sym (pending-lines u input)) ∙ ap (λ (z : Bool). not z && noLine (linesIn (pending u input))) (sym e))
       where
-        empty : (ls : List (List ℕ)) → ls ≡ [] → none (behind (start (u .cut)) ls) ≡ true
+        empty : (ls : List (List ℕ)) → ls ≡ [] → noLine (behind (start (u .cut)) ls) ≡ true
         empty ls e = rw e
 
-        there : {l : List ℕ} (ls : List (List ℕ)) {ms : List (List ℕ)} → ls ≡ l ∷ ms → none (behind (start (u .cut)) ls) ≡ false
+        there : {l : List ℕ} (ls : List (List ℕ)) {ms : List (List ℕ)} → ls ≡ l ∷ ms → noLine (behind (start (u .cut)) ls) ≡ false
         there ls e = rw e
 
-        go : (z : Bool) → eqb k (u .to - u .from) ≡ z → z ≡ none (behind (start (u .cut)) (linesIn (between (u .from) (u .to) input)))
+        go : (z : Bool) → eqb k (u .to - u .from) ≡ z → z ≡ noLine (behind (start (u .cut)) (linesIn (between (u .from) (u .to) input)))
         go true e = sym (empty _ (part-none input (u .from) (u .to) k (w .ordered) (w .inside) f (omega (arith, eqb-true k (u .to - u .from) e))))
         go false e =
             sym (there _ (part-next input (u .from) (u .to) k (w .ordered) (w .inside) f
             (omega (arith, eqb-false k (u .to - u .from) e, i, part-long input (u .from) (u .to) k (w .ordered) (w .inside) f))))
 
   pub lacks-none : lacksLine u input ≡ true → (u .ended ≡ false) × (linesIn (pending u input) ≡ [])
-  unfolding lacksLine none
+  unfolding lacksLine noLine
   lacks-none h = go (u .ended) refl (linesIn (pending u input)) refl h
     where
-      go : (z : Bool) → u .ended ≡ z → (ls : List (List ℕ)) → linesIn (pending u input) ≡ ls → (not z && none ls) ≡ true → (u .ended ≡ false) × (linesIn (pending u input) ≡ [])
+      go : (z : Bool) → u .ended ≡ z → (ls : List (List ℕ)) → linesIn (pending u input) ≡ ls → (not z && noLine ls) ≡ true → (u .ended ≡ false) × (linesIn (pending u input) ≡ [])
       go true e ls f h = absurd (true≢false (sym h))
       go false e [] f h = (e, f)
       go false e (l ∷ ls) f h = absurd (true≢false (sym h))

@@ -3,10 +3,10 @@
 use Prim.Native.Nat.{ℕ}
 use mathlib.Core.Path.{_≡_, refl, sym, ap, ap₂, subst, _∙_}
 use mathlib.Core.Bool.{Bool, true, true≢false}
-use mathlib.Core.List.{List, [], _∷_, _++_, append-assoc, append-nil}
+use mathlib.Core.List.{List, [], _++_, append-assoc, append-nil}
 use lib.ListN.{take, drop}
 use Rattle.rules.specs.Book.{Book}
-use Rattle.lines.specs.Program.{linesIn, closed, span, answers, leaves, answered, program, no14}
+use Rattle.lines.specs.Program.{linesIn, closed, span, answers, program}
 use Rattle.lines.proofs.ProgramLaws.{closed-taken, answers-append}
 use Rattle.desk.proofs.PendingLaws.{Comes, kept-answers, read-closed}
 use Rattle.desk.specs.Turn.{Desk, Follows, stays, reads, Turned, Finished, Run, rests, turns}

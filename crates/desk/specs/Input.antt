@@ -32,16 +32,16 @@ unfoldable pub pending : Unread → List ℕ → List ℕ
 pending u input = start (u .cut) ++ between (u .from) (u .to) input
 
 -- the last line has its newline
-abbrev pub whole : List ℕ → Bool → Type 0
-whole w ended = ended ≡ true → closed w ≡ w
+abbrev pub Whole : List ℕ → Bool → Type 0
+Whole w ended = ended ≡ true → closed w ≡ w
 
-unfoldable pub none : List (List ℕ) → Bool
-none [] = true
-none (l ∷ ls) = false
+unfoldable pub noLine : List (List ℕ) → Bool
+noLine [] = true
+noLine (l ∷ ls) = false
 
 -- more has to be read before a whole line is there
 unfoldable pub lacksLine : Unread → List ℕ → Bool
-lacksLine u input = not (u .ended) && none (linesIn (pending u input))
+lacksLine u input = not (u .ended) && noLine (linesIn (pending u input))
 
 -- what is kept of an unfinished line
 unfoldable pub kept : List ℕ → List ℕ
@@ -61,7 +61,7 @@ pub record More (u : Unread) (input : List ℕ) (r : Unread) (now : List ℕ) : 
 -- what is there after it, also where it failed
 pub record Got (u : Unread) (input : List ℕ) (r : Unread) (now : List ℕ) : Type 0 where
   pub within : Within r now
-  pub last : whole (pending r now) (r .ended)
+  pub last : Whole (pending r now) (r .ended)
   pub over : r .failed ≡ true → r .ended ≡ true
   pub more : Unless (r .failed) (More u input r now)
 
@@ -69,7 +69,7 @@ pub record Got (u : Unread) (input : List ℕ) (r : Unread) (now : List ℕ) : T
 pub record Opens (u : Unread) (input : List ℕ) : Type 0 where
   pub came : List ℕ
   pub same : (more : List ℕ) → (u .ended ≡ true → more ≡ []) → program (came ++ more) ≡ answered (linesIn (closed (pending u input ++ more)))
-  pub last : whole (pending u input) (u .ended)
+  pub last : Whole (pending u input) (u .ended)
 
 -- ---- an unfinished line
 

@@ -11,7 +11,7 @@ use Rattle.rules.specs.Bytes.{Tables, bookIn}
 use Rattle.rules.specs.declared.Head.{Head}
 use Rattle.plan.specs.Judge.{Ready}
 use Rattle.lines.specs.Program.{linesIn, closed, span, answers, leaves}
-use Rattle.desk.specs.Input.{Within, pending, kept, whole}
+use Rattle.desk.specs.Input.{Within, pending, kept, Whole}
 use Rattle.desk.specs.Output.{filledTo, failedIn}
 use Rattle.desk.specs.declared.State.{State}
 use Rattle.desk.specs.declared.input.Unread.{Unread}
@@ -20,7 +20,7 @@ use Rattle.desk.specs.declared.output.Printed.{Printed}
 pub record Starts (s : State) (t : Tables) (input : List ℕ) : Type 0 where
   pub ready : Ready (s .head) t
   pub within : Within (s .unread) input
-  pub last : whole (pending (s .unread) input) (s .unread .ended)
+  pub last : Whole (pending (s .unread) input) (s .unread .ended)
   pub long : 512 < length input
   pub none : s .filled ≡ 0
   pub going : s .going ≡ true
@@ -29,7 +29,7 @@ pub record Starts (s : State) (t : Tables) (input : List ℕ) : Type 0 where
 pub record Holds (s : State) (t : Tables) (input out : List ℕ) : Type 0 where
   pub ready : Ready (s .head) t
   pub within : Within (s .unread) input
-  pub last : whole (pending (s .unread) input) (s .unread .ended)
+  pub last : Whole (pending (s .unread) input) (s .unread .ended)
   pub long : 512 < length input
   pub gathered : s .filled ≤ length out
   pub works : s .going ≡ true → s .failed ≡ false
@@ -37,7 +37,7 @@ pub record Holds (s : State) (t : Tables) (input out : List ℕ) : Type 0 where
 -- the head and the buffers of a state that waits for input
 pub record Waits (s : State) (input out : List ℕ) : Type 0 where
   pub within : Within (s .unread) input
-  pub last : whole (pending (s .unread) input) (s .unread .ended)
+  pub last : Whole (pending (s .unread) input) (s .unread .ended)
   pub long : 512 < length input
   pub gathered : s .filled ≤ length out
   pub works : s .going ≡ true → s .failed ≡ false

@@ -4,8 +4,7 @@
 use Prim.Native.Nat.{ℕ, _+_}
 use Prim.Native.String.{String}
 use mathlib.Core.Path.{refl}
-use mathlib.Core.List.{List, [], _∷_, _++_, map}
-use lib.ListN.{length}
+use mathlib.Core.List.{List, [], _∷_, _++_}
 use Rattle.sets.specs.Sets.{sizeIn, size}
 use Rattle.rows.specs.Number.{joined}
 use Rattle.rules.specs.Lists.{every, some, keep, first, pairwise, numbered, tabulateFrom, tabulate, upTo}
