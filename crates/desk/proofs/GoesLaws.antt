@@ -19,10 +19,10 @@ use Rattle.lines.specs.declared.request.First.the-variants as firsts
 use Rattle.lines.proofs.ProgramLaws.{behind, closed-taken, long-asks, long-first}
 use Rattle.rules.specs.Runs.{bookOf}
 use Rattle.theorems.proofs.RunLaws.{fresh, fresh-book}
-use Rattle.desk.specs.Input.{between, start, pending, Whole, noLine, lacksLine, Unless, More, Got, Opens, modeTaken}
+use Rattle.desk.specs.Input.{between, start, pending, Whole, Comes, noLine, lacksLine, Unless, More, Got, Opens, modeTaken}
 use Rattle.desk.specs.Block.{numbersOf, rowFor, rowsOf, lineCount, Takes, Reads, rowsAnswers, rowsLeave, Answers}
 use Rattle.desk.specs.Output.{filledTo, failedIn, Gathers}
-use Rattle.desk.specs.Turn.{Printing, Desk, desk, Follows, stays, reads, Finished, Goes, Run, rests, Ran, Runs, Awaits}
+use Rattle.desk.specs.Turn.{Printing, Desk, desk, still, Begins, Follows, stays, reads, Finished, Goes, Run, rests, Ran, Runs, Awaits}
 use Rattle.desk.specs.declared.State.{State}
 use Rattle.desk.specs.declared.block.Block.{Block}
 use Rattle.desk.specs.declared.input.Unread.{Unread}
@@ -30,8 +30,8 @@ use Rattle.desk.specs.declared.input.Taken.{Taken}
 use Rattle.desk.specs.declared.output.Printed.{Printed}
 use Rattle.desk.specs.declared.output.Printed.the-variants.{To, Failed}
 use Rattle.desk.proofs.AnswerLaws.{lines-rows, lines-leave}
-use Rattle.desk.proofs.PendingLaws.{start-long, start-none, start-off, pending-lines, pending-taken, whole-taken, take-behind, none-left, unless-not, Comes}
-use Rattle.desk.proofs.ProgramLaws.{still, run-then, Begins, program-by-turns}
+use Rattle.desk.proofs.PendingLaws.{start-long, start-none, start-off, pending-lines, pending-taken, whole-taken, take-behind, none-left, unless-not}
+use Rattle.desk.proofs.ProgramLaws.{run-then, program-by-turns}
 
 -- ---- a wait
 
@@ -238,7 +238,7 @@ ran-runs d s t input out r = go (s .failed) r
   where
     go : (z : Bool) → Unless z (Ran d (desk s t input out) (s .going)) → Unless z (Runs d s t input)
     go true r = tt
-    go false r = record { out = out; ran = r }
+    go false r = record { out = out; ran = r; prints = λ g first b. program-by-turns b (r .run) (r .stops g) }
 
 -- ---- the first line
 
@@ -314,7 +314,7 @@ module _ (u : Unread) (input : List ℕ) (o : Opens u input) (m : Mode) (r : Tak
   -- from there the turns print what the program prints for all that came
   pub prints-program : (s : State) (t : Tables) → s .head ≡ headOf (emptyBook (m .0)) → s .unread ≡ r .unread → s .filled ≡ 0 → {last : State} {t′ : Tables} {now : List ℕ}
       → (n : Runs (desk s t input []) last t′ now) → last .going ≡ false → n .ran .gone ≡ program (o .came ++ n .ran .came)
-  prints-program s t hd un fi n g = program-by-turns (mode-begins s t [] hd un fi) (n .ran .run) (n .ran .stops g)
+  prints-program s t hd un fi n g = n .prints g (o .came) (mode-begins s t [] hd un fi)
 
 -- a first line that names no mode: `no 14`, whatever follows
 module _ (u : Unread) (input : List ℕ) (o : Opens u input) (r : Taken) (e : r ≡ modeTaken u (u .cut) (linesIn (between (u .from) (u .to) input)))

@@ -16,7 +16,7 @@ use Rattle.rules.specs.Book.{Book}
 use Rattle.lines.specs.Request.{longer}
 use Rattle.lines.specs.Program.{newline, linesIn, closed, span, answers, answered, program}
 use Rattle.lines.proofs.ProgramLaws.{behind, start-lines, start-closed, closed-left, closed-twice, long-start, long-first}
-use Rattle.desk.specs.Input.{between, Within, start, pending, Whole, noLine, lacksLine, kept, Unless, More, Got, Opens, tooLong, Kept, Keeps, Ends}
+use Rattle.desk.specs.Input.{between, Within, start, pending, Whole, Comes, noLine, lacksLine, kept, Unless, More, Got, Opens, tooLong, Kept, Keeps, Ends}
 use Rattle.desk.specs.declared.input.Unread.{Unread}
 use Rattle.desk.proofs.LineLaws.{drop-take, part-long, part-next, part-none}
 
@@ -186,12 +186,8 @@ module _ (u : Unread) (input : List ℕ) where
 
 -- ---- a read
 
--- nothing comes after the input's end
-abbrev pub Comes : Bool → List ℕ → Type 0
-Comes ended more = ended ≡ true → more ≡ []
-
 -- what came and what may still come behind what is kept, with the last line's newline
-pub read-closed : (left came after more : List ℕ) (ended : Bool) → Comes ended more → (ended ≡ true → came ≡ []) → after ≡ cond ended (closed (kept left)) (kept left ++ came)
+pub read-closed : (left came after more : List ℕ) (ended : Bool) → Comes ended more → Comes ended came → after ≡ cond ended (closed (kept left)) (kept left ++ came)
     → closed (kept left ++ (came ++ more)) ≡ closed (after ++ more)
 read-closed left came after more true h c w =
     ap₂ (λ (x y : List ℕ). closed (kept left ++ (x ++ y))) (c refl) (h refl)

@@ -8,14 +8,11 @@ use lib.ListN.{take, drop}
 use Rattle.rules.specs.Book.{Book}
 use Rattle.lines.specs.Program.{linesIn, closed, span, answers, program}
 use Rattle.lines.proofs.ProgramLaws.{closed-taken, answers-append}
-use Rattle.desk.proofs.PendingLaws.{Comes, kept-answers, read-closed}
-use Rattle.desk.specs.Turn.{Desk, Follows, stays, reads, Turned, Finished, Run, rests, turns}
+use Rattle.desk.proofs.PendingLaws.{kept-answers, read-closed}
+use Rattle.desk.specs.Input.{Comes}
+use Rattle.desk.specs.Turn.{Desk, still, Begins, Follows, stays, reads, Turned, Finished, Run, rests, turns}
 
 -- ---- one turn
-
--- what is still printed, if `more` is all that is still to be read
-unfoldable pub still : Desk → List ℕ → List ℕ
-still d more = d .held ++ answers (linesIn (closed (d .input ++ more))) (d .book)
 
 follows-same : {ended ended′ : Bool} {left came after : List ℕ} → Follows ended left came ended′ after → (more : List ℕ) → Comes ended′ more → (b : Book)
     → answers (linesIn (closed (left ++ (came ++ more)))) b ≡ answers (linesIn (closed (after ++ more))) b
@@ -72,10 +69,6 @@ run-still (turns {d} {e} {f} {came} {gone} t r) more h =
 finished-still : (f : Desk) → Finished f → still f [] ≡ []
 unfolding still linesIn closed answers
 finished-still f n = rw (n .held, n .input)
-
--- what is printed from a first state on is what the program prints for all input
-pub record Begins (came : List ℕ) (d : Desk) : Type 0 where
-  pub same : (more : List ℕ) → Comes (d .ended) more → program (came ++ more) ≡ still d more
 
 -- the turns from there to the end of the input
 pub program-by-turns : {first came gone : List ℕ} {d f : Desk} → Begins first d → Run d came gone f → Finished f → gone ≡ program (first ++ came)

@@ -35,6 +35,10 @@ pending u input = start (u .cut) ++ between (u .from) (u .to) input
 abbrev pub Whole : List ℕ → Bool → Type 0
 Whole w ended = ended ≡ true → closed w ≡ w
 
+-- nothing comes after the input's end
+abbrev pub Comes : Bool → List ℕ → Type 0
+Comes ended bytes = ended ≡ true → bytes ≡ []
+
 unfoldable pub noLine : List (List ℕ) → Bool
 noLine [] = true
 noLine (l ∷ ls) = false
@@ -55,7 +59,7 @@ Unless false P = P
 -- one read behind an unfinished line: the bytes that came stand behind what is kept; at the input's end the last line gets its newline
 pub record More (u : Unread) (input : List ℕ) (r : Unread) (now : List ℕ) : Type 0 where
   pub came : List ℕ
-  pub last : r .ended ≡ true → came ≡ []
+  pub last : Comes (r .ended) came
   pub bytes : pending r now ≡ cond (r .ended) (closed (kept (pending u input))) (kept (pending u input) ++ came)
 
 -- what is there after it, also where it failed
@@ -68,7 +72,7 @@ pub record Got (u : Unread) (input : List ℕ) (r : Unread) (now : List ℕ) : T
 -- the reads until the first line is whole: the program prints the same for what is pending as for all that came, whatever follows
 pub record Opens (u : Unread) (input : List ℕ) : Type 0 where
   pub came : List ℕ
-  pub same : (more : List ℕ) → (u .ended ≡ true → more ≡ []) → program (came ++ more) ≡ answered (linesIn (closed (pending u input ++ more)))
+  pub same : (more : List ℕ) → Comes (u .ended) more → program (came ++ more) ≡ answered (linesIn (closed (pending u input ++ more)))
   pub last : Whole (pending u input) (u .ended)
 
 -- ---- an unfinished line

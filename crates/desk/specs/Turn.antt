@@ -10,12 +10,36 @@ use Rattle.rules.specs.Book.{Book}
 use Rattle.rules.specs.Bytes.{Tables, bookIn}
 use Rattle.rules.specs.declared.Head.{Head}
 use Rattle.plan.specs.Judge.{Ready}
-use Rattle.lines.specs.Program.{linesIn, closed, span, answers, leaves}
-use Rattle.desk.specs.Input.{Within, pending, kept, Whole}
+use Rattle.lines.specs.Program.{linesIn, closed, span, answers, leaves, program}
+use Rattle.desk.specs.Input.{Within, pending, kept, Whole, Comes}
 use Rattle.desk.specs.Output.{filledTo, failedIn}
 use Rattle.desk.specs.declared.State.{State}
 use Rattle.desk.specs.declared.input.Unread.{Unread}
 use Rattle.desk.specs.declared.output.Printed.{Printed}
+
+-- what a state holds: the book, the answers that are not yet written out, the input that is not yet taken and whether it is the last
+pub record Desk : Type 0 where
+  pub book : Book
+  pub held : List ℕ
+  pub input : List ℕ
+  pub ended : Bool
+
+abbrev pub desk : State → Tables → List ℕ → List ℕ → Desk
+desk s t input out = record { book = bookIn (s .head) t; held = take (s .filled) out; input = pending (s .unread) input; ended = s .unread .ended }
+
+-- what is still printed from there, if `more` is all that is still to be read
+unfoldable pub still : Desk → List ℕ → List ℕ
+still d more = d .held ++ answers (linesIn (closed (d .input ++ more))) (d .book)
+
+-- for all that came until now and any `more`, that is what the program prints
+pub record Begins (came : List ℕ) (d : Desk) : Type 0 where
+  pub same : (more : List ℕ) → Comes (d .ended) more → program (came ++ more) ≡ still d more
+
+pub record Begun (d : Desk) : Type 0 where
+  pub came : List ℕ
+  pub begins : Begins came d
+
+-- ---- states
 
 pub record Starts (s : State) (t : Tables) (input : List ℕ) : Type 0 where
   pub ready : Ready (s .head) t
@@ -25,6 +49,7 @@ pub record Starts (s : State) (t : Tables) (input : List ℕ) : Type 0 where
   pub none : s .filled ≡ 0
   pub going : s .going ≡ true
   pub fine : s .failed ≡ false
+  pub begun : Begun (desk s t input [])
 
 pub record Holds (s : State) (t : Tables) (input out : List ℕ) : Type 0 where
   pub ready : Ready (s .head) t
@@ -58,20 +83,10 @@ pub record Printing (s : State) (h : Head) (u : Unread) (p : Printed) : Type 0 w
 
 -- ---- turns
 
--- what a state holds: the book, the answers that are not yet written out, the input that is not yet taken and whether it is the last
-pub record Desk : Type 0 where
-  pub book : Book
-  pub held : List ℕ
-  pub input : List ℕ
-  pub ended : Bool
-
-abbrev pub desk : State → Tables → List ℕ → List ℕ → Desk
-desk s t input out = record { book = bookIn (s .head) t; held = take (s .filled) out; input = pending (s .unread) input; ended = s .unread .ended }
-
 -- what is pending behind the lines taken, and after it: the same, or with one read more
 pub data Follows (ended : Bool) (left came : List ℕ) (ended′ : Bool) (after : List ℕ) : Type 0 where
   stays : came ≡ [] → ended′ ≡ ended → after ≡ left → Follows ended left came ended′ after
-  reads : ended ≡ false → linesIn left ≡ [] → (ended′ ≡ true → came ≡ []) → after ≡ cond ended′ (closed (kept left)) (kept left ++ came)
+  reads : ended ≡ false → linesIn left ≡ [] → Comes ended′ came → after ≡ cond ended′ (closed (kept left)) (kept left ++ came)
       → Follows ended left came ended′ after
 
 -- a turn takes some whole lines; their texts stand behind what was held, and the first of all that has gone out
@@ -105,10 +120,11 @@ pub record Ran (d e : Desk) (going : Bool) : Type 0 where
   pub run : Run d came gone e
   pub stops : going ≡ false → Finished e
 
--- to a state, with some content of the output buffer
+-- to a state, with some content of the output buffer; where the program has ended, what has gone is what it prints for all that came
 pub record Runs (d : Desk) (s : State) (t : Tables) (input : List ℕ) : Type 0 where
   pub out : List ℕ
   pub ran : Ran d (desk s t input out) (s .going)
+  pub prints : s .going ≡ false → (first : List ℕ) → Begins first d → ran .gone ≡ program (first ++ ran .came)
 
 -- a wait for input, after all that was held has gone out
 pub record Awaits (s : State) (input : List ℕ) (r : State) (now : List ℕ) : Type 0 where
