@@ -19,7 +19,7 @@ use Rattle.lines.specs.declared.request.First.the-variants as firsts
 use Rattle.lines.proofs.ProgramLaws.{behind, closed-taken, long-asks, long-first}
 use Rattle.rules.specs.Runs.{bookOf}
 use Rattle.theorems.proofs.RunLaws.{fresh, fresh-book}
-use Rattle.desk.specs.Input.{between, start, pending, Whole, Comes, noLine, lacksLine, Unless, More, Got, Opens, modeTaken}
+use Rattle.desk.specs.Input.{between, start, pending, Whole, Comes, noLine, lacksLine, Unless, More, Got, Opens, Opened, modeTaken}
 use Rattle.desk.specs.Block.{numbersOf, rowFor, rowsOf, lineCount, Takes, Reads, rowsAnswers, rowsLeave, Answers}
 use Rattle.desk.specs.Output.{filledTo, failedIn, Gathers}
 use Rattle.desk.specs.Turn.{Printing, Desk, desk, still, Begins, Follows, stays, reads, Finished, Goes, Run, rests, Ran, Runs, Awaits}
@@ -317,8 +317,11 @@ module _ (u : Unread) (input : List ℕ) (o : Opens u input) (m : Mode) (r : Tak
   prints-program s t hd un fi n g = n .prints g (o .came) (mode-begins s t [] hd un fi)
 
 -- a first line that names no mode: `no 14`, whatever follows
-module _ (u : Unread) (input : List ℕ) (o : Opens u input) (r : Taken) (e : r ≡ modeTaken u (u .cut) (linesIn (between (u .from) (u .to) input)))
-    (f : r .first ≡ firsts.Malformed) (h : lacksLine u input ≡ false) where
+module _ (u : Unread) (input : List ℕ) (k : Opened u input) (r : Taken) (e : r ≡ modeTaken u (u .cut) (linesIn (between (u .from) (u .to) input)))
+    (f : r .first ≡ firsts.Malformed) where
+  abbrev o : Opens u input
+  o = k .opens
+
   pub prints-refusal : (more : List ℕ) → Comes (u .ended) more → program (o .came ++ more) ≡ no14
   unfolding pending answered started lacksLine noLine linesIn closed
   prints-refusal more c = o .same more c ∙ go (u .cut) refl (linesIn mine) refl (sym (ap (λ (x : Taken). x .first) e) ∙ f)
@@ -327,23 +330,23 @@ module _ (u : Unread) (input : List ℕ) (o : Opens u input) (r : Taken) (e : r 
       mine = between (u .from) (u .to) input
 
       lines : {z : Bool} {ls : List (List ℕ)} → u .cut ≡ z → linesIn mine ≡ ls → linesIn (pending u input) ≡ behind (start z) ls
-      lines k p = pending-lines u input ∙ ap₂ (λ (x : Bool) (y : List (List ℕ)). behind (start x) y) k p
+      lines c′ p = pending-lines u input ∙ ap₂ (λ (x : Bool) (y : List (List ℕ)). behind (start x) y) c′ p
 
       over : (z : Bool) → u .ended ≡ z → linesIn (pending u input) ≡ [] → u .ended ≡ true
       over true x y = x
-      over false x y = absurd (true≢false (sym (ap₂ (λ (b : Bool) (ls : List (List ℕ)). not b && noLine ls) x y) ∙ h))
+      over false x y = absurd (true≢false (sym (ap₂ (λ (b : Bool) (ls : List (List ℕ)). not b && noLine ls) x y) ∙ k .found))
 
       go : (z : Bool) → u .cut ≡ z → (ls : List (List ℕ)) → linesIn mine ≡ ls → modeTaken u z ls .first ≡ firsts.Malformed
           → answered (linesIn (closed (pending u input ++ more))) ≡ no14
-      go true k ls p q =
-          ap (λ (z : Bool). answered (linesIn (closed ((start z ++ mine) ++ more)))) k
+      go true c′ ls p q =
+          ap (λ (z : Bool). answered (linesIn (closed ((start z ++ mine) ++ more)))) c′
           ∙ (ap (λ (x : List ℕ). answered (linesIn (closed x))) (append-assoc (start true) mine more)
           ∙ long-first (start true) (mine ++ more) (omega (arith, start-long)) (start-none true))
-      go false k [] p q =
-          let ended : u .ended ≡ true = over (u .ended) refl (lines k p) in
-          let nothing : pending u input ≡ [] = none-left (pending u input) (lines k p) (o .last ended) in
+      go false c′ [] p q =
+          let ended : u .ended ≡ true = over (u .ended) refl (lines c′ p) in
+          let nothing : pending u input ≡ [] = none-left (pending u input) (lines c′ p) (o .last ended) in
           ap₂ (λ (x y : List ℕ). answered (linesIn (closed (x ++ y)))) nothing (c ended)
-      go false k (l ∷ ls) p q =
+      go false c′ (l ∷ ls) p q =
           let rest : List (List ℕ) = linesIn (closed (drop (span (take 1 (linesIn (pending u input)))) (pending u input) ++ more)) in
           ap answered (closed-taken 1 (pending u input) more)
-          ∙ (ap (λ (x : List (List ℕ)). answered (take 1 x ++ rest)) (lines k p ∙ ap (λ (x : List ℕ). (x ++ l) ∷ ls) start-off) ∙ ap (λ (x : First). started x rest) q)
+          ∙ (ap (λ (x : List (List ℕ)). answered (take 1 x ++ rest)) (lines c′ p ∙ ap (λ (x : List ℕ). (x ++ l) ∷ ls) start-off) ∙ ap (λ (x : First). started x rest) q)

@@ -16,7 +16,7 @@ use Rattle.rules.specs.Book.{Book}
 use Rattle.lines.specs.Request.{longer}
 use Rattle.lines.specs.Program.{newline, linesIn, closed, span, answers, answered, program}
 use Rattle.lines.proofs.ProgramLaws.{behind, start-lines, start-closed, closed-left, closed-twice, long-start, long-first}
-use Rattle.desk.specs.Input.{between, Within, start, pending, Whole, Comes, noLine, lacksLine, kept, Unless, More, Got, Opens, tooLong, Kept, Keeps, Ends}
+use Rattle.desk.specs.Input.{between, Within, start, pending, Whole, Comes, noLine, lacksLine, kept, Unless, More, Got, Opens, Opened, tooLong, Kept, Keeps, Ends}
 use Rattle.desk.specs.declared.input.Unread.{Unread}
 use Rattle.desk.proofs.LineLaws.{drop-take, part-long, part-next, part-none}
 
@@ -325,3 +325,13 @@ opens-again u input r now f o h g = go (u .failed) refl o
     go : (z : Bool) → u .failed ≡ z → Unless z (Opens u input) → Unless (r .failed) (Opens r now)
     go true e o = absurd (true≢false (sym (f e) ∙ lacks-none u input h .0))
     go false e o = opens-more u input r now o h g
+
+pub opened : (u : Unread) (input : List ℕ) → Unless (u .failed) (Opens u input) → lacksLine u input ≡ false → Unless (u .failed) (Opened u input)
+opened u input o f = go (u .failed) o
+  where
+    go : (z : Bool) → Unless z (Opens u input) → Unless z (Opened u input)
+    go true o = tt
+    go false o = record { opens = o; found = f }
+
+pub opened-failed : {r : Unread} (now : List ℕ) → r ≡ record { from = 0; to = 0; cut = false; ended = true; failed = true } → Within r now × Unless (r .failed) (Opened r now)
+opened-failed now e = rw e (record { ordered = omega arith; inside = omega arith }, tt)

@@ -75,6 +75,10 @@ pub record Opens (u : Unread) (input : List ℕ) : Type 0 where
   pub same : (more : List ℕ) → Comes (u .ended) more → program (came ++ more) ≡ answered (linesIn (closed (pending u input ++ more)))
   pub last : Whole (pending u input) (u .ended)
 
+pub record Opened (u : Unread) (input : List ℕ) : Type 0 where
+  pub opens : Opens u input
+  pub found : lacksLine u input ≡ false
+
 -- ---- an unfinished line
 
 -- one that is kept stands at the buffer's front

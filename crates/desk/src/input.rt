@@ -11,7 +11,7 @@ ghost use lib.ListN.{length};
 ghost use Rattle.rows.specs.Number.{stored};
 ghost use Rattle.rules.specs.Lists.{first};
 ghost use Rattle.lines.specs.Program.{newline, linesIn};
-ghost use Rattle.desk.specs.Input.{between, Within, pending, lacksLine, Unless, Got, Opens, Kept, Keeps, Ends, Moded, modeTaken};
+ghost use Rattle.desk.specs.Input.{between, Within, pending, lacksLine, Unless, Got, Opened, Kept, Keeps, Ends, Moded, modeTaken};
 
 // The buffer's bytes: a line too long to be a request and one read more.
 pub const INPUT: usize = 16384;
@@ -167,11 +167,11 @@ fn lacks_line(input: &[u8], u: Unread) -> bool
     line_end(&input[from..to]) == to - from
 }
 
-// Reads until the first line is whole, or the input ends. (The count of turns: nothing says that the input ends.)
+// Reads until the first line is whole, or the input ends. (The count of turns: nothing says that the input ends. An input that uses it up fails.)
 pub fn read_first(input: &mut [u8]) -> Unread
     requires { ⌜ 512 < length (now input) ⌝ }
     ensures { λ r. ⌜ Within r (now (input .exit)) ⌝ }
-    ensures { λ r. ⌜ Unless (r .failed) (Opens r (now (input .exit))) ⌝ }
+    ensures { λ r. ⌜ Unless (r .failed) (Opened r (now (input .exit))) ⌝ }
 {
     let mut u = Unread {
         from: 0,
@@ -184,6 +184,9 @@ pub fn read_first(input: &mut [u8]) -> Unread
     while turns > 0 && lacks_line(input, u) {
         u = read_more(input, u);
         turns -= 1;
+    }
+    if turns == 0 {
+        return fail();
     }
     u
 }

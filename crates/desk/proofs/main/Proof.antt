@@ -80,7 +80,7 @@ answer-all-requires : tie.Need-answer-all-requires
 answer-all-requires c κs =
     let first = c .before .before .before .before .before .before .before .before .before .before .before .before .before .before .before .before .before .before .before .before .read-first in
     let taken = c .before .before .before .before .before .before .before .before .before .before .before .before .before .before .before .before .take-mode in
-    let opens = unless-not (c .before .before .before .before .before .before .before .before .before .before .before .before .before .before .before .before .before .before .if1 .left) (first .ensures .1) in
+    let opens = unless-not (c .before .before .before .before .before .before .before .before .before .before .before .before .before .before .before .before .before .before .if1 .left) (first .ensures .1) .opens in
     let names = c .before .before .before .before .before .before .before .before .before .before .before .before .before .first .given .1 in
     let empty = c .before .before .before .before .before .before .empty-head in
     record {

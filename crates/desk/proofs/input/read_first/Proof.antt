@@ -1,10 +1,11 @@
 -- `desk::input::read_first` meets its contract. Assumes nothing.
 use native.Mathlib.Omega.{arith}
 use mathlib.Core.Path.{_≡_, refl, sym, _∙_}
-use mathlib.Core.Bool.{true, true≢false}
+use mathlib.Core.Bool.{true, false, true≢false}
+use mathlib.Core.Logic.{⊎-elim}
 use lib.ListN.{length}
-use Rattle.desk.specs.Input.{Within, Unless, Opens}
-use Rattle.desk.proofs.PendingLaws.{lacks-none, opens-none, opens-again}
+use Rattle.desk.specs.Input.{Within, lacksLine, Unless, Opens}
+use Rattle.desk.proofs.PendingLaws.{lacks-none, opens-none, opens-again, opened, opened-failed}
 use Rattle.desk.proofs.input.read_first.Statement.{statement}
 use Rattle.desk.proofs.input.read_first.Tie as tie
 
@@ -43,17 +44,23 @@ loop-again c =
     let lacks = sym (c .before .before .before .before .before .lacks-line .ensures) ∙ c .before .before .before .before .if1 .taken in
     (more .ensures .within, omega arith, more .ensures .over, opens-again (i .u) (i .input) (more .result) (more .last .0) (i .inv .2) (i .inv .3) lacks (more .ensures))
 
+fail-requires : tie.Need-fail-requires Inv-loop μ-loop
+fail-requires c κs = tt
+
 same-length : tie.Need-same-length Inv-loop μ-loop
 same-length c = omega arith
 
 returns : tie.Need-returns Inv-loop μ-loop
-returns c = (c .before .before .before .before .loop .inv .0, c .before .before .before .before .loop .inv .3)
+returns c = opened-failed _ (c .fail .ensures)
 
 same-length-2 : tie.Need-same-length-2 Inv-loop μ-loop
 same-length-2 c = omega arith
 
 returns-2 : tie.Need-returns-2 Inv-loop μ-loop
-returns-2 c = (c .before .loop .inv .0, c .before .loop .inv .3)
+returns-2 c =
+    let i = c .before .before .loop in
+    let found : lacksLine (i .u) (i .input) ≡ false = ⊎-elim (λ w. sym (w .2 .ensures) ∙ w .3 .left) (λ w. absurd (omega arith)) (c .before .loop-test .came) in
+    (i .inv .0, opened (i .u) (i .input) (i .inv .3) found)
 
 pub read-first-spec : {M : Type 1} → statement M
 read-first-spec =
@@ -67,6 +74,7 @@ read-first-spec =
     sub-turns
     loop-less
     loop-again
+    fail-requires
     same-length
     returns
     same-length-2
