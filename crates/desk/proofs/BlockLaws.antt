@@ -22,7 +22,7 @@ use Rattle.rules.specs.Requests as requests
 use Rattle.rules.specs.Bytes.{Tables, bookIn}
 use Rattle.rules.specs.Refusals.{Request, joins, inserts, grants, revokes, verdict, noSuch, work, own, limits, refusal, refusalOpen, opened, number, viewNumber, viewTold}
 use Rattle.rules.specs.Runs.{keep, bookOf}
-use Rattle.rules.specs.Calls.{rowsLent, Change, change, changeBy, Asked, changes, opens, nothing, asked, askedIn, One, one, changeOne, openOne, refusedOne, All, all, Service, serving, serveBy, refusalServe, serveCall}
+use Rattle.rules.specs.Calls.{orderRows, chainRows, rowsLent, Change, change, changeBy, Asked, changes, opens, nothing, asked, askedIn, One, one, changeOne, openOne, refusedOne, All, all, Service, serving, serveBy, refusalServe, serveCall}
 use Rattle.rules.specs.declared.Head.{Head}
 use Rattle.rules.specs.declared.Served.{Served}
 use Rattle.rules.specs.declared.Served.the-variants.{Done}
@@ -30,14 +30,17 @@ use Rattle.rules.specs.declared.View.{View}
 use Rattle.rules.specs.declared.View.the-variants as views
 use Rattle.rules.specs.declared.Refusal.{Refusal}
 use Rattle.rules.specs.declared.Refusal.the-variants.{NoSuch, Closed, ShortList}
-use Rattle.theorems.proofs.RequestLaws.{Rows, verdict-none, verdict-append, verdict-passed, verdict-first, common-passed}
+use Rattle.theorems.proofs.RequestLaws.{Rows, verdict-none, verdict-append, verdict-passed, verdict-first, common-passed, work-sound}
 use Rattle.theorems.proofs.ListLaws.{length-tabulate}
 use Rattle.theorems.proofs.ViewLaws.{view-open}
 use Rattle.theorems.proofs.OpensLaws.{opens-list}
 use Rattle.theorems.proofs.OrderLaws.{mostRows, rows-enough, open-rows}
 use Rattle.theorems.proofs.CallLaws.{all-leads}
-use Rattle.theorems.proofs.ServeLaws.{Ready, ready-one, ready-refusal, ready-open, ownOrders, each, one-gives, all-serves}
+use Rattle.theorems.proofs.ServeLaws.{Ready, ready-one, ready-refusal, ready-open, ownOrders, each, one-gives, all-serves, length-orders, length-chains}
+use Rattle.theorems.proofs.ByteLaws.{sound-book-laid}
 use Rattle.plan.specs.Judge as plan
+use Rattle.lines.specs.Answer.{answerText}
+use Rattle.lines.specs.Program.{Told, refused, changeTold, openTold, answerTo}
 use Rattle.desk.specs.Block.{mostOf, mostIn, Enough, Answered}
 use Rattle.desk.specs.Output.{counts, neverTen}
 
@@ -76,7 +79,7 @@ module _ {A : Type 0} where
   tabulate-later i zero f g e = refl
   tabulate-later i (suc n) f g e = rw (e i, tabulate-later (suc i) n f g e)
 
-asked-cons : (k a b : ℕ) (rows : List ℕ) → askedIn (k ∷ a ∷ b ∷ rows) ≡ asked k a b ∷ askedIn rows
+pub asked-cons : (k a b : ℕ) (rows : List ℕ) → askedIn (k ∷ a ∷ b ∷ rows) ≡ asked k a b ∷ askedIn rows
 unfolding askedIn rowsLent tabulate tabulateFrom
 asked-cons k a b rows = ap (λ (n : ℕ). tabulateFrom 0 n (askedAt xs)) more ∙ ap (λ (qs : List Asked). asked k a b ∷ qs) (tabulate-later 0 (length rows / 3) (askedAt xs) (askedAt rows) later)
   where
@@ -137,21 +140,36 @@ limits-past room d h = rw (le-ltb room (length (d .orders)) h)
 
 -- ---- one request
 
--- its answer row: no more order rows than the most, and no 10
-pub record Roomy (most : ℕ) (o : One) : Type 0 where
+-- its answer row: no more order rows than the most, and no 10; its text and the book that it leaves are those of the program's definition
+pub record Roomy (most : ℕ) (a : Told) (o : One) : Type 0 where
   pub number′ : ℕ
   pub view′ : ℕ
   pub row : o .row ≡ number′ ∷ view′ ∷ o .count ∷ []
   pub few : o .count ≤ most
   pub never : number′ ≡ 10 → ⊥
+  pub text : answerText number′ view′ (take (o .count * 3) (o .orders)) ≡ a .text
+  pub book : bookIn (o .head) (o .tables) ≡ a .book
 
-refused-roomy : (most : ℕ) (r : Refusal) (h : Head) (t : Tables) (list : List ℕ) → (number r ≡ 10 → ⊥) → Roomy most (refusedOne r h t list)
-unfolding refusedOne
-refused-roomy most r h t list n = record { number′ = number r; view′ = viewTold r; row = refl; few = omega arith; never = n }
+refused-roomy : (most : ℕ) (r : Refusal) (h : Head) (t : Tables) (list : List ℕ) {a : Told} → (number r ≡ 10 → ⊥) → a ≡ refused r (bookIn h t) → Roomy most a (refusedOne r h t list)
+unfolding refusedOne refused
+refused-roomy most r h t list n e =
+    record {
+      number′ = number r;
+      view′ = viewTold r;
+      row = refl;
+      few = omega arith;
+      never = n;
+      text = sym (ap (λ (x : Told). x .text) e);
+      book = sym (ap (λ (x : Told). x .book) e);
+    }
 
-refused-nothing : (h : Head) (t : Tables) (list : List ℕ) → Roomy 0 (one nothing h t list)
-unfolding one
-refused-nothing h t list = refused-roomy 0 NoSuch h t list (λ n. omega arith)
+refused-nothing : (h : Head) (t : Tables) (list : List ℕ) → Roomy 0 (answerTo nothing (bookIn h t)) (one nothing h t list)
+unfolding one answerTo
+refused-nothing h t list = refused-roomy 0 NoSuch h t list (λ n. omega arith) refl
+
+-- the rows stored are those that the answer counts
+rows-counted : (n : ℕ) (rows list : List ℕ) → length rows ≡ n → take n (stored 0 rows list) ≡ rows
+rows-counted n rows list e = ap (λ (m : ℕ). take m (stored 0 rows list)) (sym e) ∙ stored-first rows list
 
 module _ (h : Head) (t : Tables) (list : List ℕ) (k : Ready (keep h t)) where
   abbrev b : Book
@@ -180,9 +198,27 @@ module _ (h : Head) (t : Tables) (list : List ℕ) (k : Ready (keep h t)) where
           not-ten (limits room (work q b)) (limits-past room (work q b) (omega (arith, rows-enough q b sound-book f)))
           (sym (verdict-passed (own q b) (limits room (work q b)) f) ∙ told)
 
-  change-roomy : (q : Request) → mostRows q ≤ room → Roomy (mostRows q) (one (changes q) h t list)
-  unfolding one change changeBy changeOne
-  change-roomy q m = go (refusal t b room q) refl
+  -- enough order rows are as good as those that the request gives
+  change-enough : (q : Request) → mostRows q ≤ room → refusal t b room q ≡ verdict (own q b ++ limits (length (work q b .orders)) (work q b))
+  unfolding limits
+  change-enough q m = refusal-own q ∙ go (verdict (own q b)) refl
+    where
+      d : requests.Done
+      d = work q b
+
+      n : ℕ
+      n = length (d .orders)
+
+      go : (z : Option Refusal) → verdict (own q b) ≡ z → verdict (own q b ++ limits room d) ≡ verdict (own q b ++ limits n d)
+      go (some r) f = verdict-first (own q b) (limits room d) f ∙ sym (verdict-first (own q b) (limits n d) f)
+      go none f =
+          let long : ltb room n ≡ ltb n n = le-ltb room n (omega (arith, rows-enough q b sound-book f)) ∙ sym (le-ltb n n (omega arith)) in
+          let rows : limits room d ≡ limits n d = rw long in
+          verdict-passed (own q b) (limits room d) f ∙ (ap verdict rows ∙ sym (verdict-passed (own q b) (limits n d) f))
+
+  change-roomy : (q : Request) → mostRows q ≤ room → Roomy (mostRows q) (answerTo (changes q) b) (one (changes q) h t list)
+  unfolding one change changeBy changeOne answerTo changeTold
+  change-roomy q m = go (refusal t b room q) refl (change-enough q m)
     where
       d : requests.Done
       d = work q b
@@ -190,11 +226,23 @@ module _ (h : Head) (t : Tables) (list : List ℕ) (k : Ready (keep h t)) where
       c : Option Refusal → Change
       c z = changeBy z d t list
 
-      go : (z : Option Refusal) → refusal t b room q ≡ z → Roomy (mostRows q) (changeOne (c z .answer) h (c z .tables) (c z .orders))
-      go (some r) e = refused-roomy (mostRows q) r h t list (change-never q m e)
-      go none e =
-          let (f, g) = verdict-append (own q b) (limits room d) (sym (refusal-own q) ∙ e) in
-          record { number′ = 0; view′ = 0; row = refl; few = rows-enough q b sound-book f; never = λ n. omega arith }
+      v : Option Refusal
+      v = verdict (own q b ++ limits (length (d .orders)) d)
+
+      go : (z : Option Refusal) → refusal t b room q ≡ z → refusal t b room q ≡ v → Roomy (mostRows q) (changeTold v d b) (changeOne (c z .answer) h (c z .tables) (c z .orders))
+      go (some r) e f = refused-roomy (mostRows q) r h t list (change-never q m e) (ap (λ (z : Option Refusal). changeTold z d b) (sym f ∙ e))
+      go none e f =
+          let (x, y) = verdict-append (own q b) (limits room d) (sym (refusal-own q) ∙ e) in
+          let is : changeTold v d b ≡ changeTold none d b = ap (λ (z : Option Refusal). changeTold z d b) (sym f ∙ e) in
+          record {
+            number′ = 0;
+            view′ = 0;
+            row = refl;
+            few = rows-enough q b sound-book x;
+            never = λ n. omega arith;
+            text = ap (λ (x : List ℕ). answerText 0 0 x) (rows-counted (length (d .orders) * 3) (orderRows (d .orders)) list (length-orders (d .orders))) ∙ sym (ap (λ (x : Told). x .text) is);
+            book = sound-book-laid (d .book) t (work-sound t b room q e) ∙ sym (ap (λ (x : Told). x .book) is);
+          }
 
   open-table : (u r : ℕ) → Rows
   open-table u r =
@@ -244,15 +292,39 @@ module _ (h : Head) (t : Tables) (list : List ℕ) (k : Ready (keep h t)) where
           short : verdict ((NoSuch, false) ∷ (Closed (view b u r), false) ∷ (ShortList, ltb room (length (opened b u r))) ∷ []) ≡ none
           short = rw (le-ltb room (length (opened b u r)) (omega (arith, shown-few u r p q)))
 
-  open-roomy : (u r : ℕ) → 126 ≤ room → Roomy 126 (one (opens u r) h t list)
-  unfolding one openOne
-  open-roomy u r m = go (refusalOpen t b room u r) refl
+  open-enough : (u r : ℕ) → 126 ≤ room
+      → refusalOpen t b room u r ≡ verdict ((NoSuch, noSuch b u r) ∷ (Closed (view b u r), not (eqb (viewNumber (view b u r)) 0)) ∷ [])
+  unfolding open-table verdict
+  open-enough u r m = refusal-shown u r ∙ go (noSuch b u r) (not (eqb (viewNumber (view b u r)) 0)) refl refl
     where
-      go : (z : Option Refusal) → refusalOpen t b room u r ≡ z → Roomy 126 (openOne z b u r h t list)
-      go (some n) e = refused-roomy 126 n h t list (open-never u r m e)
-      go none e = record { number′ = 0; view′ = 0; row = refl; few = open-few u r (sym (refusal-shown u r) ∙ e); never = λ n. omega arith }
+      go : (x y : Bool) → noSuch b u r ≡ x → not (eqb (viewNumber (view b u r)) 0) ≡ y
+          → verdict ((NoSuch, x) ∷ (Closed (view b u r), y) ∷ (ShortList, ltb room (length (opened b u r))) ∷ []) ≡ verdict ((NoSuch, x) ∷ (Closed (view b u r), y) ∷ [])
+      go true y p q = refl
+      go false true p q = refl
+      go false false p q = rw (le-ltb room (length (opened b u r)) (omega (arith, shown-few u r p q)))
 
-  pub one-roomy : (q : Asked) → mostAsked q ≤ room → Roomy (mostAsked q) (one q h t list)
+  open-roomy : (u r : ℕ) → 126 ≤ room → Roomy 126 (answerTo (opens u r) b) (one (opens u r) h t list)
+  unfolding one openOne answerTo openTold
+  open-roomy u r m = go (refusalOpen t b room u r) refl (open-enough u r m)
+    where
+      v : Option Refusal
+      v = verdict ((NoSuch, noSuch b u r) ∷ (Closed (view b u r), not (eqb (viewNumber (view b u r)) 0)) ∷ [])
+
+      go : (z : Option Refusal) → refusalOpen t b room u r ≡ z → refusalOpen t b room u r ≡ v → Roomy 126 (openTold v u r b) (openOne z b u r h t list)
+      go (some n) e f = refused-roomy 126 n h t list (open-never u r m e) (ap (λ (z : Option Refusal). openTold z u r b) (sym f ∙ e))
+      go none e f =
+          let is : openTold v u r b ≡ openTold none u r b = ap (λ (z : Option Refusal). openTold z u r b) (sym f ∙ e) in
+          record {
+            number′ = 0;
+            view′ = 0;
+            row = refl;
+            few = open-few u r (sym (refusal-shown u r) ∙ e);
+            never = λ n. omega arith;
+            text = ap (λ (x : List ℕ). answerText 0 0 x) (rows-counted (length (opened b u r) * 3) (chainRows b u r) list (length-chains b u r)) ∙ sym (ap (λ (x : Told). x .text) is);
+            book = sym (ap (λ (x : Told). x .book) is);
+          }
+
+  pub one-roomy : (q : Asked) → mostAsked q ≤ room → Roomy (mostAsked q) (answerTo q b) (one q h t list)
   one-roomy (changes q) m = change-roomy q m
   one-roomy (opens u r) m = open-roomy u r m
   one-roomy nothing m = refused-nothing h t list
@@ -266,7 +338,7 @@ pub record AllRoomy (qs : List Asked) (a : All) : Type 0 where
   pub never : neverTen (a .answers) ≡ true
 
 -- the order rows left for the others
-rest-room : (q : Asked) (h : Head) (t : Tables) (list : List ℕ) (m : ℕ) → one q h t list .count + m ≤ rowsLent list
+pub rest-room : (q : Asked) (h : Head) (t : Tables) (list : List ℕ) (m : ℕ) → one q h t list .count + m ≤ rowsLent list
     → m ≤ rowsLent (drop (one q h t list .count * 3) (one q h t list .orders))
 unfolding rowsLent
 rest-room q h t list m e =
@@ -280,7 +352,7 @@ unfolding all mostAll counts neverTen
 all-roomy [] h t list k m = record { few = omega arith; counted = refl; long = refl; never = refl }
 all-roomy (q ∷ qs) h t list k m =
     let o : One = one q h t list in
-    let r : Roomy (mostAsked q) o = one-roomy h t list k q (omega arith) in
+    let r : Roomy (mostAsked q) (answerTo q (bookIn h t)) o = one-roomy h t list k q (omega arith) in
     let i : AllRoomy qs (all qs (o .head) (o .tables) (drop (o .count * 3) (o .orders))) =
     all-roomy qs (o .head) (o .tables) (drop (o .count * 3) (o .orders)) (ready-one q h t list k) (rest-room q h t list (mostAll qs) (omega (arith, r .few))) in
     let rest : List ℕ = all qs (o .head) (o .tables) (drop (o .count * 3) (o .orders)) .answers in
@@ -298,11 +370,11 @@ unfolding askedIn rowsLent
 length-asked rows = length-tabulate (length rows / 3) (askedAt rows)
 
 module _ (requests : List ℕ) (h : Head) (t : Tables) (answers list : List ℕ) (k : plan.Ready h t) (e : Enough requests answers list) where
-  kept : Ready (keep h t)
+  pub kept : Ready (keep h t)
   unfolding bookOf
   kept = record { long = k .long; sound′ = k .sound′ }
 
-  abbrev a : All
+  abbrev pub a : All
   a = all (askedIn requests) h t list
 
   roomy : AllRoomy (askedIn requests) a
@@ -316,7 +388,7 @@ module _ (requests : List ℕ) (h : Head) (t : Tables) (answers list : List ℕ)
       common-passed t (bookIn h t) ((ShortList, ltb (length answers / 3) (length requests / 3)) ∷ []) (k .long) (k .sound′)
       ∙ rw (le-ltb (length answers / 3) (length requests / 3) (omega (arith, e .answered)))
 
-  served : serveCall requests h t answers list ≡ serveBy none a t answers list
+  pub served : serveCall requests h t answers list ≡ serveBy none a t answers list
   unfolding serveCall
   served = ap (λ (z : Option Refusal). serveBy z a t answers list) passed
 
@@ -324,7 +396,7 @@ module _ (requests : List ℕ) (h : Head) (t : Tables) (answers list : List ℕ)
   unfolding bookOf
   after-ready = let m = all-leads (askedIn requests) h t list in record { long = m .long ∙ k .long; sound′ = m .sound′ (k .sound′) }
 
-  rows-long : length (a .answers) ≡ length requests
+  pub rows-long : length (a .answers) ≡ length requests
   rows-long = omega (arith, roomy .long, length-asked requests, e .whole)
 
   used-few : a .used * 3 ≤ length list

@@ -17,9 +17,10 @@ use Rattle.lines.specs.Request.{longer, lineAsks, firstLine}
 use Rattle.lines.specs.declared.request.First.{First}
 use Rattle.lines.specs.declared.request.First.the-variants.{Malformed}
 use Rattle.lines.specs.declared.request.Asked.{Asked}
-use Rattle.desk.specs.Input.{newline, linesIn, between, Within, tooLong, Keeps, modeTaken}
+use Rattle.lines.specs.Program.{newline, linesIn, span}
+use Rattle.desk.specs.Input.{between, Within, tooLong, Keeps, modeTaken}
 use Rattle.desk.specs.declared.input.Unread.{Unread}
-use Rattle.desk.specs.Block.{rowFor, numbersOf, mostOf, rowsOf, span, lineCount, Takes}
+use Rattle.desk.specs.Block.{rowFor, numbersOf, mostOf, rowsOf, lineCount, Takes}
 use Rattle.lines.proofs.Putting.{put-byte}
 use Rattle.desk.proofs.PrintLaws.{taken-stored}
 
@@ -47,7 +48,7 @@ lines-none (c ∷ cs) h = go (newline c) (lines-none cs) h
     go true r l = absurd (omega arith)
     go false r l = rw (r (omega arith))
 
-drop-take : (m n : ℕ) (xs : List ℕ) → drop m (take n xs) ≡ take (n - m) (drop m xs)
+pub drop-take : (m n : ℕ) (xs : List ℕ) → drop m (take n xs) ≡ take (n - m) (drop m xs)
 drop-take zero n xs = let e : n - 0 ≡ n = omega arith in rw e
 drop-take (suc m) zero xs = let e : 0 - suc m ≡ 0 = omega arith in rw e
 drop-take (suc m) (suc n) [] = sym (take-nil (suc n - suc m))
@@ -55,7 +56,7 @@ drop-take (suc m) (suc n) (x ∷ xs) = let e : suc n - suc m ≡ n - m = omega a
 
 -- of a part of the input; k bytes stand before its first newline
 module _ (input : List ℕ) (from to k : ℕ) (o : from ≤ to) (i : to ≤ length input) (e : k ≡ first newline (between from to input)) where
-  part-long : length (between from to input) ≡ to - from
+  pub part-long : length (between from to input) ≡ to - from
   part-long = length-take-le (to - from) (drop from input) (omega (arith, length-drop from input))
 
   pub part-next : k < to - from → linesIn (between from to input) ≡ between from (from + k) input ∷ linesIn (between (from + k + 1) to input)
@@ -188,11 +189,11 @@ module _ (u : Unread) where
   long-by e f = rw e f
 
 module _ (u : Unread) (input : List ℕ) where
-  pub keeps-none : tooLong u ≡ true → (now : List ℕ) → Keeps u input (record { from = 0; to = 0; cut = true; ended = false }) now
+  pub keeps-none : tooLong u ≡ true → (now : List ℕ) → Keeps u input (record { from = 0; to = 0; cut = true; ended = false; failed = false }) now
   keeps-none e now = record { marked = rw e; bytes = rw e }
 
   pub keeps-all : tooLong u ≡ false → Within u input → {n : ℕ} {now : List ℕ} → n ≡ u .to - u .from → now ≡ stored 0 (between (u .from) (u .to) input) input
-      → Keeps u input (record { from = 0; to = n; cut = false; ended = false }) now
+      → Keeps u input (record { from = 0; to = n; cut = false; ended = false; failed = false }) now
   keeps-all e w {n} {now} k f =
       let part : List ℕ = between (u .from) (u .to) input in
       let long : n ≡ length part = k ∙ sym (part-long input (u .from) (u .to) (first newline part) (w .ordered) (w .inside) refl) in
@@ -211,7 +212,7 @@ module _ (u : Unread) where
   mode-none e p = ap₂ (λ (z : Bool) (x : List (List ℕ)). modeTaken u z x) (sym e) (sym p)
 
   pub mode-of : {l : List ℕ} {ls ls′ : List (List ℕ)} {f : First} {end : ℕ} → u .cut ≡ false → ls ≡ l ∷ ls′ → f ≡ firstLine l → end ≡ u .from + length l + 1
-      → record { first = f; unread = record { from = end; to = u .to; cut = false; ended = u .ended } } ≡ modeTaken u (u .cut) ls
+      → record { first = f; unread = record { from = end; to = u .to; cut = false; ended = u .ended; failed = u .failed } } ≡ modeTaken u (u .cut) ls
   mode-of {l} {ls} {ls′} {f} {end} e p q d =
-      ap₂ (λ (x : First) (n : ℕ). record { first = x; unread = record { from = n; to = u .to; cut = false; ended = u .ended } }) q d
+      ap₂ (λ (x : First) (n : ℕ). record { first = x; unread = record { from = n; to = u .to; cut = false; ended = u .ended; failed = u .failed } }) q d
       ∙ ap₂ (λ (z : Bool) (x : List (List ℕ)). modeTaken u z x) (sym e) (sym p)

@@ -21,7 +21,7 @@ use Rattle.theorems.proofs.RunLaws.{fresh, fresh-sound}
 use Rattle.plan.specs.Judge.{Ready}
 use Rattle.lines.specs.declared.request.First.{First}
 use Rattle.lines.specs.declared.request.First.the-variants.{Of}
-use Rattle.desk.specs.Input.{Within, Moded}
+use Rattle.desk.specs.Input.{Within, pending, Whole, Moded}
 use Rattle.desk.specs.Block.{mostIn, Enough, Serves}
 use Rattle.desk.specs.Turn.{Holds, Waits}
 use Rattle.desk.specs.declared.State.{State}
@@ -40,8 +40,11 @@ ready-by {h} {k} {t} e x = subst (λ (z : Head). Ready z t) (sym e) x
 pub within-by : {u v : Unread} {input : List ℕ} → u ≡ v → Within v input → Within u input
 within-by {u} {v} {input} e x = subst (λ (z : Unread). Within z input) (sym e) x
 
+pub last-by : {u v : Unread} (input : List ℕ) → u ≡ v → Whole (pending v input) (v .ended) → Whole (pending u input) (u .ended)
+last-by {u} {v} input e x = subst (λ (z : Unread). Whole (pending z input) (z .ended)) (sym e) x
+
 pub holds-waits : {s : State} {h : Head} {t : Tables} {input out : List ℕ} → Ready h t → s .head ≡ h → Waits s input out → Holds s t input out
-holds-waits k e w = record { ready = ready-by e k; within = w .within; long = w .long; gathered = w .gathered }
+holds-waits k e w = record { ready = ready-by e k; within = w .within; last = w .last; long = w .long; gathered = w .gathered; works = w .works }
 
 -- the rows that were read, and what is lent for their answers and orders
 pub enough : (rows : ℕ) (requests : List ℕ) {answers orders : List ℕ} → rows ≤ 128 → 384 ≤ length requests → 384 ≤ length answers → 18432 ≤ length orders

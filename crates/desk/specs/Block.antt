@@ -6,15 +6,17 @@ use mathlib.Core.Bool.{Bool, true, false, cond}
 use mathlib.Core.List.{List, [], _∷_, _++_}
 use lib.Dec.{eqb, leb}
 use lib.ListN.{length, take}
+use Rattle.rules.specs.Book.{Book}
 use Rattle.rules.specs.Bytes.{Tables}
 use Rattle.rules.specs.declared.Served.{Served}
 use Rattle.rules.specs.declared.Served.the-variants.{Done, No}
 use Rattle.plan.specs.Judge.{Ready}
-use Rattle.desk.specs.Input.{linesIn, between}
+use Rattle.desk.specs.Input.{between}
 use Rattle.desk.specs.Output.{counts, neverTen}
 use Rattle.desk.specs.declared.block.Block.{Block}
 use Rattle.desk.specs.declared.input.Unread.{Unread}
-use Rattle.lines.specs.Request.{lineAsks}
+use Rattle.lines.specs.Request.{asking, lineAsks}
+use Rattle.lines.specs.Program.{linesIn, span, Told, lineTold}
 use Rattle.lines.specs.declared.request.Asked.{Asked}
 use Rattle.lines.specs.declared.request.Line.{Line}
 use Rattle.lines.specs.declared.request.Line.the-variants.{Asks, Malformed}
@@ -58,11 +60,6 @@ unfoldable pub rowsOf : Bool → List (List ℕ) → List ℕ
 rowsOf cut [] = []
 rowsOf cut (l ∷ ls) = numbersOf (rowFor cut (lineAsks l)) ++ rowsOf false ls
 
--- the bytes of lines with their newlines
-unfoldable pub span : List (List ℕ) → ℕ
-span [] = 0
-span (l ∷ ls) = length l + 1 + span ls
-
 -- how many of the lines: to the last of them, unless n rows are filled or fewer order rows are left than a request may need
 unfoldable pub lineCount : ℕ → ℕ → Bool → List (List ℕ) → ℕ
 lineCount zero room cut ls = 0
@@ -84,7 +81,35 @@ pub record Reads (u : Unread) (input : List ℕ) (b : Block) (requests : List �
   pub to≡ : b .unread .to ≡ u .to
   pub ended≡ : b .unread .ended ≡ u .ended
 
+-- ---- the answers to request rows
+
+-- to one row: to the line that has it
+unfoldable pub rowTold : ℕ → ℕ → ℕ → Book → Told
+rowTold kind a b book = lineTold (cond (eqb kind 14) Malformed (asking kind a b)) book
+
+-- to several, one after the other
+unfoldable pub rowsAnswers : List ℕ → Book → List ℕ
+rowsAnswers [] book = []
+rowsAnswers (k ∷ []) book = []
+rowsAnswers (k ∷ a ∷ []) book = []
+rowsAnswers (k ∷ a ∷ b ∷ rows) book =
+    let t = rowTold k a b book in
+    t .text ++ rowsAnswers rows (t .book)
+
+-- the book after them
+unfoldable pub rowsLeave : List ℕ → Book → Book
+rowsLeave [] book = book
+rowsLeave (k ∷ []) book = book
+rowsLeave (k ∷ a ∷ []) book = book
+rowsLeave (k ∷ a ∷ b ∷ rows) book = rowsLeave rows (rowTold k a b book .book)
+
 -- ---- serving them
+
+-- what was in the output buffer and the texts of the answers: some of it has gone out, and the buffer holds the others
+pub record Answers (requests : List ℕ) (book : Book) (held : List ℕ) (book′ : Book) (held′ : List ℕ) : Type 0 where
+  pub gone : List ℕ
+  pub text : gone ++ held′ ≡ held ++ rowsAnswers requests book
+  pub book≡ : book′ ≡ rowsLeave requests book
 
 -- what is lent to the call that serves a block: an answer row for each request, and order rows enough for all
 pub record Enough (requests answers orders : List ℕ) : Type 0 where

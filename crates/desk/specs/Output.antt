@@ -2,7 +2,7 @@
 -- Assumes nothing.
 use Prim.Native.Nat.{ℕ, _+_, _*_, _≤_, _<_}
 use mathlib.Core.Path.{_≡_}
-use mathlib.Core.Bool.{Bool, true, _&&_, not, cond}
+use mathlib.Core.Bool.{Bool, true, false, _&&_, not, cond}
 use mathlib.Core.List.{List, [], _∷_}
 use lib.Dec.{eqb}
 use lib.ListN.{length, take, drop, getD}
@@ -14,6 +14,10 @@ use Rattle.desk.specs.declared.output.Printed.the-variants.{To, Failed}
 abbrev pub filledTo : Printed → ℕ
 filledTo (To n) = n
 filledTo Failed = 0
+
+abbrev pub failedIn : Printed → Bool
+failedIn (To n) = false
+failedIn Failed = true
 
 abbrev pub Filled : Printed → List ℕ → Type 0
 Filled p out = filledTo p ≤ length out

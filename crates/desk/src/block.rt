@@ -113,6 +113,7 @@ pub fn read_block(input: &[u8], u: Unread, requests: &mut [u64]) -> Block
             to,
             cut,
             ended: u.ended,
+            failed: u.failed,
         },
     }
 }

@@ -1,13 +1,17 @@
 // Standard input, line by line: the part of a buffer that was read and holds lines not yet taken.
+use libc::STDERR_FILENO;
 use libc::STDIN_FILENO;
 use lines::request::First;
 use lines::request::read_mode;
+ghost use mathlib.Core.Bool.{true, false};
+ghost use mathlib.Core.List.{[]};
 ghost use mathlib.Core.Path.{_≡_};
 ghost use Prim.Native.Nat.{_-_, _≤_, _<_};
 ghost use lib.ListN.{length};
 ghost use Rattle.rows.specs.Number.{stored};
 ghost use Rattle.rules.specs.Lists.{first};
-ghost use Rattle.desk.specs.Input.{newline, linesIn, between, Within, Kept, Keeps, Moded, modeTaken};
+ghost use Rattle.lines.specs.Program.{newline, linesIn};
+ghost use Rattle.desk.specs.Input.{between, Within, pending, lacksLine, Unless, Got, Opened, Kept, Keeps, Ends, Moded, modeTaken};
 
 // The buffer's bytes: a line too long to be a request and one read more.
 pub const INPUT: usize = 16384;
@@ -16,11 +20,13 @@ pub const INPUT: usize = 16384;
 pub const LONGEST: usize = 512;
 
 // The bytes from `from` to `to`. `cut`: the first of them belong to a line that is longer than a line may be, whose start was dropped.
+// `ended`: no more is to be read; `failed`: because a read failed.
 pub struct Unread {
     pub from: usize,
     pub to: usize,
     pub cut: bool,
     pub ended: bool,
+    pub failed: bool,
 }
 
 // Where the first newline stands, or the end where there is none.
@@ -68,6 +74,7 @@ fn keep_start(input: &mut [u8], u: Unread) -> Unread
             to: 0,
             cut: true,
             ended: false,
+            failed: false,
         };
     }
     Unread {
@@ -75,6 +82,7 @@ fn keep_start(input: &mut [u8], u: Unread) -> Unread
         to: to_front(input, from, to),
         cut: false,
         ended: false,
+        failed: false,
     }
 }
 
@@ -82,7 +90,9 @@ fn keep_start(input: &mut [u8], u: Unread) -> Unread
 fn end_last(input: &mut [u8], u: Unread) -> Unread
     requires { ⌜ Kept u ⌝ }
     requires { ⌜ 512 < length (now input) ⌝ }
+    requires { ⌜ linesIn (pending u (now input)) ≡ [] ⌝ }
     ensures { λ r. ⌜ Within r (now (input .exit)) ⌝ }
+    ensures { λ r. ⌜ Ends r (pending r (now (input .exit))) (pending u (now (input .entry))) ⌝ }
 {
     let to = u.to;
     if to == 0 && !u.cut {
@@ -91,6 +101,7 @@ fn end_last(input: &mut [u8], u: Unread) -> Unread
             to: 0,
             cut: false,
             ended: true,
+            failed: false,
         };
     }
     input[to] = b'\n';
@@ -99,14 +110,30 @@ fn end_last(input: &mut [u8], u: Unread) -> Unread
         to: to + 1,
         cut: u.cut,
         ended: true,
+        failed: false,
     }
 }
 
-// One read behind an unfinished line. A read that fails ends the input, and the unfinished line is not taken for a whole one.
+// A read that fails ends the input, and says so on standard error; the unfinished line is not taken for a whole one.
+fn fail() -> Unread
+    ensures { λ r. ⌜ r ≡ record { from = 0; to = 0; cut = false; ended = true; failed = true } ⌝ }
+{
+    io::write_all(STDERR_FILENO, b"desk: standard input can't be read\n");
+    Unread {
+        from: 0,
+        to: 0,
+        cut: false,
+        ended: true,
+        failed: true,
+    }
+}
+
+// One read behind an unfinished line.
 pub fn read_more(input: &mut [u8], u: Unread) -> Unread
     requires { ⌜ Within u (now input) ⌝ }
     requires { ⌜ 512 < length (now input) ⌝ }
-    ensures { λ r. ⌜ Within r (now (input .exit)) ⌝ }
+    requires { ⌜ linesIn (pending u (now input)) ≡ [] ⌝ }
+    ensures { λ r. ⌜ Got u (now (input .entry)) r (now (input .exit)) ⌝ }
 {
     let k = keep_start(input, u);
     let to = k.to;
@@ -115,12 +142,7 @@ pub fn read_more(input: &mut [u8], u: Unread) -> Unread
         return end_last(input, k);
     }
     if got < 0 {
-        return Unread {
-            from: 0,
-            to: 0,
-            cut: false,
-            ended: true,
-        };
+        return fail();
     }
     let n = io::count(got, &input[to..]);
     Unread {
@@ -128,12 +150,14 @@ pub fn read_more(input: &mut [u8], u: Unread) -> Unread
         to: to + n,
         cut: k.cut,
         ended: false,
+        failed: false,
     }
 }
 
 // Whether a whole line is still to be waited for.
 fn lacks_line(input: &[u8], u: Unread) -> bool
     requires { ⌜ Within u (now input) ⌝ }
+    ensures { λ r. ⌜ r ≡ lacksLine u (now (input .entry)) ⌝ }
 {
     if u.ended {
         return false;
@@ -143,21 +167,26 @@ fn lacks_line(input: &[u8], u: Unread) -> bool
     line_end(&input[from..to]) == to - from
 }
 
-// Reads until the first line is whole, or the input ends. (The count of turns: nothing says that the input ends.)
+// Reads until the first line is whole, or the input ends. (The count of turns: nothing says that the input ends. An input that uses it up fails.)
 pub fn read_first(input: &mut [u8]) -> Unread
     requires { ⌜ 512 < length (now input) ⌝ }
     ensures { λ r. ⌜ Within r (now (input .exit)) ⌝ }
+    ensures { λ r. ⌜ Unless (r .failed) (Opened r (now (input .exit))) ⌝ }
 {
     let mut u = Unread {
         from: 0,
         to: 0,
         cut: false,
         ended: false,
+        failed: false,
     };
     let mut turns = u64::MAX;
     while turns > 0 && lacks_line(input, u) {
         u = read_more(input, u);
         turns -= 1;
+    }
+    if turns == 0 {
+        return fail();
     }
     u
 }
@@ -190,6 +219,7 @@ pub fn take_mode(input: &[u8], u: Unread) -> Taken
             to,
             cut: false,
             ended: u.ended,
+            failed: u.failed,
         },
     }
 }

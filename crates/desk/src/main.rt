@@ -25,14 +25,18 @@ use rules::OuterTokens;
 use rules::OuterVertices;
 use rules::Resources;
 use rules::Served;
+ghost use mathlib.Core.Bool.{not};
+ghost use mathlib.Core.List.{[]};
 ghost use mathlib.Core.Path.{_≡_};
 ghost use Prim.Native.Nat.{_≤_};
-ghost use lib.ListN.{length};
+ghost use lib.ListN.{length, take};
 ghost use Rattle.rules.specs.Book.{emptyBook};
-ghost use Rattle.rules.specs.Bytes.{tables, headOf};
+ghost use Rattle.rules.specs.Bytes.{tables, bookIn, headOf};
 ghost use Rattle.plan.specs.Judge.{Ready};
-ghost use Rattle.desk.specs.Block.{Enough};
-ghost use Rattle.desk.specs.Turn.{Starts, Holds, Waits, Lent, Printing};
+ghost use Rattle.lines.specs.Program.{linesIn};
+ghost use Rattle.desk.specs.Input.{pending, Unless};
+ghost use Rattle.desk.specs.Block.{Enough, Answers};
+ghost use Rattle.desk.specs.Turn.{Starts, Holds, Waits, Lent, Printing, desk, Goes, Runs, Awaits};
 
 // The head of the empty book.
 fn empty_head(mode: Mode) -> Head
@@ -49,37 +53,53 @@ fn empty_head(mode: Mode) -> Head
     }
 }
 
-// Between two turns: the book's head, the input not yet read, how far the output buffer is filled, and whether the program goes on.
+// Between two turns: the book's head, the input not yet taken, how far the output buffer is filled, whether the program goes on, and whether a read or a
+// write failed.
 struct State {
     head: Head,
     unread: Unread,
     filled: usize,
     going: bool,
+    failed: bool,
 }
 
 // Where no whole line is left: the answers go out before more input is waited for.
 fn wait(s: State, input: &mut [u8], out: &mut [u8]) -> State
     requires { ⌜ Waits s (now input) (now out) ⌝ }
+    requires { ⌜ linesIn (pending (s .unread) (now input)) ≡ [] ⌝ }
     ensures { λ r. ⌜ Waits r (now (input .exit)) (now (out .exit)) ⌝ }
     ensures { λ r. ⌜ r .head ≡ s .head ⌝ }
+    ensures { λ r. ⌜ Unless (r .failed) (Awaits s (now (input .entry)) r (now (input .exit))) ⌝ }
 {
     let filled = s.filled;
     let head = s.head;
     let unread = s.unread;
-    let written = write_out(&out[..filled]);
-    if unread.ended || !written {
+    if !write_out(&out[..filled]) {
         return State {
             head,
             unread,
             filled: 0,
             going: false,
+            failed: true,
         };
     }
+    if unread.ended {
+        return State {
+            head,
+            unread,
+            filled: 0,
+            going: false,
+            failed: false,
+        };
+    }
+    let unread = read_more(input, unread);
+    let failed = unread.failed;
     State {
         head,
-        unread: read_more(input, unread),
+        unread,
         filled: 0,
-        going: true,
+        going: !failed,
+        failed,
     }
 }
 
@@ -93,12 +113,14 @@ fn printed(head: Head, unread: Unread, p: Printed) -> State
             unread,
             filled,
             going: true,
+            failed: false,
         },
         Printed::Failed => State {
             head,
             unread,
             filled: 0,
             going: false,
+            failed: true,
         },
     }
 }
@@ -122,6 +144,8 @@ fn answer_block(
     ensures { λ r. ⌜ Ready (r .head) (tables (now (iv .exit)) (now (it .exit)) (now (ov .exit)) (now (ot .exit)) (now (rs .exit))) ⌝ }
     ensures { λ r. ⌜ r .unread ≡ s .unread ⌝ }
     ensures { λ r. ⌜ r .filled ≤ length (now (out .exit)) ⌝ }
+    ensures { λ r. ⌜ r .going ≡ not (r .failed) ⌝ }
+    ensures { λ r. ⌜ Unless (r .failed) (Answers (now (requests .entry)) (bookIn (s .head) (tables (now (iv .entry)) (now (it .entry)) (now (ov .entry)) (now (ot .entry)) (now (rs .entry)))) (take (s .filled) (now (out .entry))) (bookIn (r .head) (tables (now (iv .exit)) (now (it .exit)) (now (ov .exit)) (now (ot .exit)) (now (rs .exit)))) (take (r .filled) (now (out .exit)))) ⌝ }
 {
     let head = s.head;
     let unread = s.unread;
@@ -151,6 +175,7 @@ fn turn(
     requires { ⌜ Holds s (tables (now iv) (now it) (now ov) (now ot) (now rs)) (now input) (now out) ⌝ }
     requires { ⌜ Lent (now requests) (now answers) (now orders) ⌝ }
     ensures { λ r. ⌜ Holds r (tables (now (iv .exit)) (now (it .exit)) (now (ov .exit)) (now (ot .exit)) (now (rs .exit))) (now (input .exit)) (now (out .exit)) ⌝ }
+    ensures { λ r. ⌜ Unless (r .failed) (Goes (desk s (tables (now (iv .entry)) (now (it .entry)) (now (ov .entry)) (now (ot .entry)) (now (rs .entry))) (now (input .entry)) (now (out .entry))) (desk r (tables (now (iv .exit)) (now (it .exit)) (now (ov .exit)) (now (ot .exit)) (now (rs .exit))) (now (input .exit)) (now (out .exit))) (r .going)) ⌝ }
 {
     let b = read_block(input, s.unread, requests);
     let unread = b.unread;
@@ -160,6 +185,7 @@ fn turn(
         unread,
         filled: s.filled,
         going: true,
+        failed: false,
     };
     let n = b.rows * 3;
     if n == 0 {
@@ -177,8 +203,9 @@ fn answer_all(
     ot: &mut [u8],
     rs: &mut [u8],
     input: &mut [u8],
-)
+) -> State
     requires { ⌜ Starts s (tables (now iv) (now it) (now ov) (now ot) (now rs)) (now input) ⌝ }
+    ensures { λ r. ⌜ Unless (r .failed) (Runs (desk s (tables (now (iv .entry)) (now (it .entry)) (now (ov .entry)) (now (ot .entry)) (now (rs .entry))) (now (input .entry)) []) r (tables (now (iv .exit)) (now (it .exit)) (now (ov .exit)) (now (ot .exit)) (now (rs .exit))) (now (input .exit))) ⌝ }
 {
     let mut requests = memory::request_rows();
     let mut answers = memory::answer_rows();
@@ -202,11 +229,15 @@ fn answer_all(
         );
         turns -= 1;
     }
+    state
 }
 
 fn main() {
     let mut input = memory::input_bytes();
     let unread = read_first(&mut input);
+    if unread.failed {
+        return;
+    }
     let t = take_mode(&input, unread);
     let first = t.first;
     let unread = t.unread;
@@ -224,6 +255,7 @@ fn main() {
         unread,
         filled: 0,
         going: true,
+        failed: false,
     };
     answer_all(s, &mut iv, &mut it, &mut ov, &mut ot, &mut rs, &mut input);
 }

@@ -7,6 +7,7 @@ use mathlib.Core.List.{List, [], _∷_, map}
 use lib.Dec.{eqb, leb, ltb}
 use lib.ListN.{length, getD}
 use Rattle.sets.specs.Sets.{single, union}
+use Rattle.sets.specs.Words.{people}
 use Rattle.rules.specs.Lists.{every, some, first}
 use Rattle.lines.specs.Text.{bytes}
 use Rattle.lines.specs.declared.request.Line.{Line}
@@ -75,11 +76,11 @@ twice (n ∷ ns) = some (eqb n) ns || twice ns
 -- the set of those that a set can name
 unfoldable pub users : List ℕ → ℕ
 users [] = 0
-users (n ∷ ns) = let s = users ns in cond (ltb n 64) (union (single n) s) s
+users (n ∷ ns) = let s = users ns in cond (ltb n people) (union (single n) s) s
 
 -- "a user number above 63": 1 if there is one
 unfoldable pub above : List ℕ → ℕ
-above ns = cond (some (leb 64) ns) 1 0
+above ns = cond (some (leb people) ns) 1 0
 
 abbrev pub asking : ℕ → ℕ → ℕ → Line
 asking k a b = line.Asks (record { kind = k; a = a; b = b })

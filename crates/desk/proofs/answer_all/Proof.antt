@@ -1,5 +1,9 @@
--- `desk::answer_all` is safe and ends: the turns are counted. The invariant: the tables hold a sound book, and the lists keep their lengths. Assumes nothing.
-use Rattle.desk.specs.Turn.{Holds}
+-- `desk::answer_all` meets its contract, and ends: the turns are counted. The invariant: the tables hold a sound book, the lists keep their lengths, and the
+-- turns so far are a run. Assumes nothing.
+use Rattle.desk.specs.Input.{Unless}
+use Rattle.desk.specs.Turn.{Holds, desk, Ran}
+use Rattle.desk.proofs.GoesLaws.{ran-none, ran-more, ran-runs}
+use mathlib.Core.List.{[]}
 use Rattle.rules.specs.Bytes.{tables}
 use lib.ListN.{length}
 use native.Mathlib.Omega.{arith}
@@ -20,6 +24,7 @@ Inv-loop iv₀ it₀ ov₀ ot₀ rs₀ input₀ requests₀ answers₀ orders₀
     × (18432 ≡ length orders)
     × (16384 ≡ length out)
     × Holds state (tables iv it ov ot rs) input out
+    × Unless (state .failed) (Ran (desk state₀ (tables iv₀ it₀ ov₀ ot₀ rs₀) input₀ []) (desk state (tables iv it ov ot rs) input out) (state .going))
 
 abbrev μ-loop : tie.MeasureT-loop
 μ-loop iv₀ it₀ ov₀ ot₀ rs₀ input₀ requests₀ answers₀ orders₀ out₀ state₀ turns₀ iv it ov ot rs input requests answers orders out state turns =
@@ -39,7 +44,8 @@ output-bytes-requires c κs = tt
 
 loop-holds : tie.Need-loop-holds Inv-loop μ-loop
 loop-holds c =
-    let s = c .before .before .before .before .before .before .before .before .before .before .pre in (
+    let s = c .before .before .before .before .before .before .before .before .before .before .pre in
+    let a = c .before .before .before .before .before .before .before .before .before .before .args in (
       refl,
       refl,
       refl,
@@ -50,7 +56,8 @@ loop-holds c =
       c .before .before .answer-rows .ensures,
       c .before .order-rows .ensures,
       c .output-bytes .ensures,
-      record { ready = s .ready; within = s .within; long = s .long; gathered = omega (arith, s .none) },
+      record { ready = s .ready; within = s .within; last = s .last; long = s .long; gathered = omega (arith, s .none); works = λ h. s .fine },
+      ran-none (a .s) (tables (a .iv .now) (a .it .now) (a .ov .now) (a .ot .now) (a .rs .now)) (a .input .now) (c .output-bytes .result) (s .none) (s .going),
     )
 
 slice-aggregate-turn : tie.Need-slice-aggregate-turn Inv-loop μ-loop
@@ -77,7 +84,10 @@ loop-less c = omega (arith, c .before .before .before .before .before .before .b
 
 loop-again : tie.Need-loop-again Inv-loop μ-loop
 loop-again c =
-    let i = c .before .before .before .before .before .before .before .before .before .before .before .before .before .before .before .before .before .before .before .before .before .before .before .before .before .before .before .before .before .loop .inv in
+    let a = c .before .before .before .before .before .before .before .before .before .before .before .before .before .before .before .before .before .before .before .before .before .before .before .before .before .before .before .before .before .before .before .before .before .before .before .before .before .before .before .before .args in
+    let l = c .before .before .before .before .before .before .before .before .before .before .before .before .before .before .before .before .before .before .before .before .before .before .before .before .before .before .before .before .before .loop in
+    let t = c .before .before .before .before .before .before .before .before .before .before .before .before .before .before .before .before .turn in
+    let i = l .inv in
     let k = c .before .before .before .before .before .before .before .before .before .before .before .before .before .before .before .before .turn .kept in (
       k .1 .0 ∙ i .0,
       k .1 .1 .0 ∙ i .1,
@@ -89,7 +99,8 @@ loop-again c =
       i .7 ∙ sym (k .1 .1 .1 .1 .1 .1 .1 .0),
       i .8 ∙ sym (k .1 .1 .1 .1 .1 .1 .1 .1 .0),
       i .9 ∙ sym (k .1 .1 .1 .1 .1 .1 .1 .1 .1 .1 .0),
-      c .before .before .before .before .before .before .before .before .before .before .before .before .before .before .before .before .turn .ensures,
+      c .before .before .before .before .before .before .before .before .before .before .before .before .before .before .before .before .turn .ensures .0,
+      ran-more (desk (a .s) (tables (a .iv .now) (a .it .now) (a .ov .now) (a .ot .now) (a .rs .now)) (a .input .now) []) (l .state) (desk (l .state) (tables (l .iv) (l .it) (l .ov) (l .ot) (l .rs)) (l .input) (l .out)) (desk (t .result) (tables (t .last .1 .0) (t .last .1 .1 .0) (t .last .1 .1 .1 .0) (t .last .1 .1 .1 .1 .0) (t .last .1 .1 .1 .1 .1 .0)) (t .last .1 .1 .1 .1 .1 .1 .1 .1 .1 .0) (t .last .1 .1 .1 .1 .1 .1 .1 .1 .1 .1 .0)) (t .result .failed) (t .result .going) (c .before .before .before .before .before .before .before .before .before .before .before .before .before .before .before .before .before .before .before .before .before .before .before .before .before .before .before .if1 .taken) (i .10 .works) (i .11) (t .ensures .1),
     )
 
 same-length : tie.Need-same-length Inv-loop μ-loop
@@ -111,7 +122,10 @@ same-length-6 : tie.Need-same-length-6 Inv-loop μ-loop
 same-length-6 c = c .before .before .loop .inv .5
 
 returns : tie.Need-returns Inv-loop μ-loop
-returns c = tt
+returns c =
+    let a = c .before .before .before .before .before .before .before .before .before .before .before .before .before .args in
+    let l = c .before .before .loop in
+    ran-runs (desk (a .s) (tables (a .iv .now) (a .it .now) (a .ov .now) (a .ot .now) (a .rs .now)) (a .input .now) []) (l .state) (tables (l .iv) (l .it) (l .ov) (l .ot) (l .rs)) (l .input) (l .out) (l .inv .11)
 
 same-length-7 : tie.Need-same-length-7 Inv-loop μ-loop
 same-length-7 c = c .before .loop .inv .0
@@ -132,7 +146,10 @@ same-length-12 : tie.Need-same-length-12 Inv-loop μ-loop
 same-length-12 c = c .before .loop .inv .5
 
 returns-2 : tie.Need-returns-2 Inv-loop μ-loop
-returns-2 c = tt
+returns-2 c =
+    let a = c .before .before .before .before .before .before .before .before .before .before .before .before .args in
+    let l = c .before .loop in
+    ran-runs (desk (a .s) (tables (a .iv .now) (a .it .now) (a .ov .now) (a .ot .now) (a .rs .now)) (a .input .now) []) (l .state) (tables (l .iv) (l .it) (l .ov) (l .ot) (l .rs)) (l .input) (l .out) (l .inv .11)
 
 pub answer-all-spec : {M : Type 1} → statement M
 answer-all-spec =

@@ -3,7 +3,11 @@ use Rattle.desk.proofs.TurnLaws.{never-refused, served-ready, ready-by}
 use lib.Seq.{length-take-le}
 use lib.ListN.{length}
 use native.Mathlib.Omega.{arith}
-use mathlib.Core.Path.{sym}
+use mathlib.Core.Path.{sym, ap, _∙_}
+use mathlib.Core.Bool.{not}
+use Rattle.rules.specs.Bytes.{tables}
+use Rattle.desk.proofs.AnswerLaws.{serve-told}
+use Rattle.desk.proofs.GoesLaws.{printed-answers}
 use borrow.Author.Needs.{needs}
 use Rattle.desk.proofs.answer_block.Statement.{statement}
 use Rattle.desk.proofs.answer_block.Tie as tie
@@ -82,10 +86,24 @@ same-length-15 c = search needs
 
 returns-2 : tie.Need-returns-2
 returns-2 c =
+    let s = c .before .before .before .before .before .before .before .before .before .before .before .before .before .before .before .before .before .before .before .before .before .before .before .before .before .before .before .before .before .before .before .before .before .before .before .before .before .before .before .before .before .before .before in
     let serve = c .before .before .before .before .before .before .before .before .before .before .before .before .before .before .before .before .before .before .before .before .before .before .before .before .serve-block in
     let p = c .printed .ensures in
-    let out = c .before .before .before .print-block .ensures in
-    (ready-by (p .head≡) (served-ready _ (c .before .before .before .before .before .before .before .before .served .given .1) (serve .ensures .0 .serves)), (p .unread≡, omega (arith, p .filled≡, out)))
+    let print = c .before .before .before .print-block in
+    let done = c .before .before .before .before .before .before .before .before .served .given .1 in
+    let told = serve-told _ _ _ _ _ (s .pre .0) (s .pre .1 .0) (serve .ensures .1) in (
+      ready-by (p .head≡) (served-ready _ done (serve .ensures .0 .serves)),
+      (
+        p .unread≡,
+        (
+          omega (arith, p .filled≡, print .ensures .0),
+          (
+            p .going≡ ∙ sym (ap not (p .failed≡)),
+            printed-answers _ _ _ _ _ _ _ _ _ p (print .ensures .1) (told .0) (tables (serve .last .1 .0) (serve .last .1 .1 .0) (serve .last .1 .1 .1 .0) (serve .last .1 .1 .1 .1 .0) (serve .last .1 .1 .1 .1 .1 .0)) (told .1 _ _ done),
+          ),
+        ),
+      ),
+    )
 
 pub answer-block-spec : {M : Type 1} → statement M
 answer-block-spec =

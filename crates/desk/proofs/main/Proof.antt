@@ -1,7 +1,11 @@
 -- `desk::main` is safe and ends: the program starts from the empty book. Assumes nothing.
 use Rattle.desk.proofs.TurnLaws.{mode-named, fresh-ready}
+use Rattle.desk.proofs.PendingLaws.{unless-not}
+use Rattle.desk.proofs.GoesLaws.{mode-whole, mode-begins}
+use mathlib.Core.List.{[]}
+use mathlib.Core.Bool.{true, false}
 use native.Mathlib.Omega.{arith}
-use mathlib.Core.Path.{refl}
+use mathlib.Core.Path.{refl, sym, _∙_}
 use borrow.Author.Needs.{needs}
 use Rattle.desk.proofs.main.Statement.{statement}
 use Rattle.desk.proofs.main.Tie as tie
@@ -14,6 +18,9 @@ slice-aggregate-read-first c = search needs
 
 read-first-requires : tie.Need-read-first-requires
 read-first-requires c κs = search needs
+
+returns : tie.Need-returns
+returns c = search needs
 
 slice-aggregate-take-mode : tie.Need-slice-aggregate-take-mode
 slice-aggregate-take-mode c = search needs
@@ -30,8 +37,8 @@ enum-told c = search needs
 refuse-start-requires : tie.Need-refuse-start-requires
 refuse-start-requires c κs = search needs
 
-returns : tie.Need-returns
-returns c = search needs
+returns-2 : tie.Need-returns-2
+returns-2 c = search needs
 
 inner-vertices-requires : tie.Need-inner-vertices-requires
 inner-vertices-requires c κs = search needs
@@ -67,20 +74,28 @@ slice-aggregate-answer-all-5 : tie.Need-slice-aggregate-answer-all-5
 slice-aggregate-answer-all-5 c = search needs
 
 slice-aggregate-answer-all-6 : tie.Need-slice-aggregate-answer-all-6
-slice-aggregate-answer-all-6 c = search needs
+slice-aggregate-answer-all-6 c = c .before .before .before .before .before .before .before .before .before .before .before .before .before .before .before .before .before .before .before .before .before .before .input-bytes .ensures ∙ sym (c .before .before .before .before .before .before .before .before .before .before .before .before .before .before .before .before .before .before .before .before .read-first .kept .0)
 
 answer-all-requires : tie.Need-answer-all-requires
 answer-all-requires c κs =
+    let first = c .before .before .before .before .before .before .before .before .before .before .before .before .before .before .before .before .before .before .before .before .read-first in
     let taken = c .before .before .before .before .before .before .before .before .before .before .before .before .before .before .before .before .take-mode in
+    let opens = unless-not (c .before .before .before .before .before .before .before .before .before .before .before .before .before .before .before .before .before .before .if1 .left) (first .ensures .1) .opens in
+    let names = c .before .before .before .before .before .before .before .before .before .before .before .before .before .first .given .1 in
+    let empty = c .before .before .before .before .before .before .empty-head in
     record {
       ready = fresh-ready _ _ _ _ _ (c .before .before .before .before .before .before .before .before .before .before .before .inner-vertices .ensures) (c .before .before .before .before .before .before .before .before .before .before .inner-tokens .ensures) (c .before .before .before .before .before .before .before .before .before .outer-vertices .ensures) (c .before .before .before .before .before .before .before .before .outer-tokens .ensures) (c .before .before .before .before .before .before .before .resources .ensures) _ (mode-named (c .before .before .before .before .before .before .before .before .before .before .before .before .before .first .given .1) (taken .ensures .1 .0)) (c .before .before .before .before .before .before .empty-head .ensures);
       within = taken .ensures .0;
-      long = omega (arith, c .before .before .before .before .before .before .before .before .before .before .before .before .before .before .before .before .before .before .before .read-first .kept .0, c .before .before .before .before .before .before .before .before .before .before .before .before .before .before .before .before .before .before .before .before .before .input-bytes .ensures);
+      last = mode-whole _ _ opens _ _ (taken .ensures .1 .1) names;
+      long = omega (arith, first .kept .0, c .before .before .before .before .before .before .before .before .before .before .before .before .before .before .before .before .before .before .before .before .before .before .input-bytes .ensures);
       none = refl;
+      going = refl;
+      fine = refl;
+      begun = record { came = opens .came; begins = mode-begins _ _ opens _ _ (taken .ensures .1 .1) names (record { head = empty .result; unread = taken .result .unread; filled = 0; going = true; failed = false }) _ [] (empty .ensures) refl refl };
     }
 
-returns-2 : tie.Need-returns-2
-returns-2 c = search needs
+returns-3 : tie.Need-returns-3
+returns-3 c = search needs
 
 pub main-spec : {M : Type 1} → statement M
 main-spec =
@@ -89,12 +104,13 @@ main-spec =
     input-bytes-requires
     slice-aggregate-read-first
     read-first-requires
+    returns
     slice-aggregate-take-mode
     take-mode-requires
     enum-known-first
     enum-told
     refuse-start-requires
-    returns
+    returns-2
     inner-vertices-requires
     inner-tokens-requires
     outer-vertices-requires
@@ -108,4 +124,4 @@ main-spec =
     slice-aggregate-answer-all-5
     slice-aggregate-answer-all-6
     answer-all-requires
-    returns-2)
+    returns-3)

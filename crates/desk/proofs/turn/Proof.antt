@@ -1,8 +1,12 @@
 -- `desk::turn` meets its contract. Assumes nothing.
-use Rattle.desk.proofs.TurnLaws.{within-by, holds-waits, enough}
+use Rattle.desk.proofs.TurnLaws.{within-by, last-by, holds-waits, enough}
+use Rattle.desk.proofs.GoesLaws.{block-none, block-whole, waits-goes, answers-goes}
 use lib.Seq.{length-take-le}
 use native.Mathlib.Omega.{arith}
-use mathlib.Core.Path.{sym}
+use mathlib.Core.Path.{refl, sym, _∙_}
+use borrow.Author.Tests.{not-true}
+use mathlib.Core.Bool.{true, false}
+use Rattle.rules.specs.Bytes.{tables}
 use borrow.Author.Needs.{needs}
 use Rattle.desk.proofs.turn.Statement.{statement}
 use Rattle.desk.proofs.turn.Tie as tie
@@ -14,7 +18,13 @@ mul-n : tie.Need-mul-n
 mul-n c = search needs
 
 wait-requires : tie.Need-wait-requires
-wait-requires c κs = search needs
+wait-requires c κs =
+    let s = c .before .before .before .before .before .before .before .before .before .before .before .before .before .before .before .before .before .before .before .before .before in
+    let read = c .before .before .before .before .before .before .before .before .read-block in
+    let reads′ = read .ensures .1 .1 .1 in (
+      record { within = read .ensures .0; last = block-whole _ _ _ _ reads′ (s .pre .0 .last); long = s .pre .0 .long; gathered = s .pre .0 .gathered; works = λ h. refl },
+      block-none _ _ _ _ reads′ (omega (arith, c .before .before .if1 .taken)),
+    )
 
 same-length : tie.Need-same-length
 same-length c = search needs
@@ -26,7 +36,14 @@ same-length-3 : tie.Need-same-length-3
 same-length-3 c = search needs
 
 returns : tie.Need-returns
-returns c = holds-waits (c .before .before .before .before .before .before .before .before .before .before .before .before .before .before .before .before .before .before .before .before .before .before .before .before .before .before .pre .0 .ready) (c .before .before .before .before .wait .ensures .1) (c .before .before .before .before .wait .ensures .0)
+returns c =
+    let s = c .before .before .before .before .before .before .before .before .before .before .before .before .before .before .before .before .before .before .before .before .before .before .before .before .before .before in
+    let a = s .args in
+    let read = c .before .before .before .before .before .before .before .before .before .before .before .before .before .read-block in
+    let wait = c .before .before .before .before .wait in (
+      holds-waits (s .pre .0 .ready) (wait .ensures .1 .0) (wait .ensures .0),
+      waits-goes (a .s) (tables (a .iv .now) (a .it .now) (a .ov .now) (a .ot .now) (a .rs .now)) (a .input .now) (a .out .now) (s .pre .0 .last) (read .result) (read .last .1 .1 .0) (read .ensures .1 .1 .1) (wait .result) (tables (a .iv .now) (a .it .now) (a .ov .now) (a .ot .now) (a .rs .now)) (wait .last .1 .0) (wait .last .1 .1 .0) (omega (arith, c .before .before .before .before .before .before .before .if1 .taken)) (record { head = a .s .head; unread = read .result .unread; filled = a .s .filled; going = true; failed = false }) refl (wait .ensures .1 .0) refl (wait .ensures .1 .1),
+    )
 
 slice-reshare-prefix-answer-block : tie.Need-slice-reshare-prefix-answer-block
 slice-reshare-prefix-answer-block c = search needs
@@ -78,13 +95,19 @@ same-length-13 c = search needs
 returns-2 : tie.Need-returns-2
 returns-2 c =
     let s = c .before .before .before .before .before .before .before .before .before .before .before .before .before .before .before .before .before .before .before .before .before .before .before .before .before .before .before .before .before .before .before .before .before .before .before .before .before .before .before .before .before .before .before .before .before in
-    let done = c .before .before .before .before .before .before .before .before .before .before .before .before .before .before .before .before .answer-block in
-    record {
-      ready = done .ensures .0;
-      within = within-by (done .ensures .1 .0) (c .before .before .before .before .before .before .before .before .before .before .before .before .before .before .before .before .before .before .before .before .before .before .before .before .before .before .before .before .before .before .before .before .read-block .ensures .0);
-      long = s .pre .0 .long;
-      gathered = done .ensures .1 .1;
-    }
+    let a = s .args in
+    let read = c .before .before .before .before .before .before .before .before .before .before .before .before .before .before .before .before .before .before .before .before .before .before .before .before .before .before .before .before .before .before .before .before .read-block in
+    let done = c .before .before .before .before .before .before .before .before .before .before .before .before .before .before .before .before .answer-block in (
+      record {
+        ready = done .ensures .0;
+        within = within-by (done .ensures .1 .0) (read .ensures .0);
+        last = last-by (a .input .now) (done .ensures .1 .0) (block-whole _ _ _ _ (read .ensures .1 .1 .1) (s .pre .0 .last));
+        long = s .pre .0 .long;
+        gathered = done .ensures .1 .1 .0;
+        works = λ h. not-true _ (sym (done .ensures .1 .1 .1 .0) ∙ h);
+      },
+      answers-goes (a .s) (tables (a .iv .now) (a .it .now) (a .ov .now) (a .ot .now) (a .rs .now)) (a .input .now) (a .out .now) (s .pre .0 .last) (read .result) (read .last .1 .1 .0) (read .ensures .1 .1 .1) (done .result) (tables (done .last .1 .0) (done .last .1 .1 .0) (done .last .1 .1 .1 .0) (done .last .1 .1 .1 .1 .0) (done .last .1 .1 .1 .1 .1 .0)) (a .input .now) (done .last .1 .1 .1 .1 .1 .1 .1 .1 .1 .0) (done .ensures .1 .0) refl (done .ensures .1 .1 .1 .0) (done .ensures .1 .1 .1 .1),
+    )
 
 pub turn-spec : {M : Type 1} → statement M
 turn-spec =

@@ -2,7 +2,8 @@
 -- lines left complete the block. Assumes nothing.
 use Rattle.desk.proofs.Laws.{most-none, most-more}
 use Rattle.desk.proofs.LineLaws.{part-next, part-none, line-long, stop-full, stop-room, stop-lines, Goes, goes-start, goes-end, goes-more}
-use Rattle.desk.specs.Input.{linesIn, between}
+use Rattle.lines.specs.Program.{linesIn}
+use Rattle.desk.specs.Input.{between}
 use Rattle.desk.specs.Block.{mostOf, mostIn}
 use borrow.Author.Tests.{leb-true, leb-false}
 use mathlib.Core.List.{List}

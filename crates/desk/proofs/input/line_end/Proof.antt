@@ -6,7 +6,7 @@ use lib.ListN.{length, drop}
 use borrow.Author.Tests.{eq-eqb, ne-eqb}
 use Rattle.rules.specs.Lists.{first}
 use Rattle.lines.proofs.Passed.{first-hit, first-miss, first-end}
-use Rattle.desk.specs.Input.{newline}
+use Rattle.lines.specs.Program.{newline}
 use Rattle.desk.proofs.input.line_end.Statement.{statement}
 use Rattle.desk.proofs.input.line_end.Tie as tie
 
