@@ -8,7 +8,7 @@ use native.Mathlib.Omega.{arith}
 use lib.ListN.{length, take, drop, set, length-append, length-take, length-set}
 use lib.Seq.{take-at, drop-at, drop-drop, set-split}
 use Rattle.rows.specs.Number.{stored}
-use Rattle.rows.proofs.Laws.{stored-none, length-stored}
+use Rattle.rows.proofs.Laws.{stored-none, stored-behind, length-stored}
 use Rattle.lines.specs.Answer.{digitsIn, digits, numeral, Puts}
 
 -- ---- texts
@@ -21,22 +21,6 @@ unfolding stored
 put-byte b at out h = record { ends = refl; holds = rw (set-split out at b h, add-one at) }
 
 -- ---- one behind the other
-
--- a store right behind another
-stored-behind : (at : ℕ) (a b t : List ℕ) (k : ℕ) → at ≤ length t → k ≡ at + length a → stored k b (stored at a t) ≡ stored at (a ++ b) t
-unfolding stored
-stored-behind at a b t k h e =
-    let la : length (take at t ++ a) ≡ k = simp (length-append, length-take) (omega arith) in
-    rw (
-      ← append-assoc (take at t) a (drop (at + length a) t),
-      take-at (take at t ++ a) (drop (at + length a) t) k la,
-      ← drop-drop (length b) k ((take at t ++ a) ++ drop (at + length a) t),
-      drop-at (take at t ++ a) (drop (at + length a) t) k la,
-      drop-drop,
-      length-append a b,
-      ← add-assoc at (length a) (length b),
-    )
-    (simp append-assoc)
 
 pub put-then : {a b : List ℕ} {at m r : ℕ} {out mid now : List ℕ} → at ≤ length out → Puts a at out m mid → Puts b m mid r now → Puts (a ++ b) at out r now
 put-then {a} {b} {at} {m} {r} {out} h p q =

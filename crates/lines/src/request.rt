@@ -168,16 +168,16 @@ fn repeats(numbers: &[u64]) -> bool
 fn users_of(numbers: &[u64]) -> u64
     ensures { λ r. ⌜ r ≡ users (now (numbers .entry)) ⌝ }
 {
-    let mut s: u64 = 0;
+    let mut s = Users::empty();
     let mut i: usize = 0;
     while i < numbers.len() {
         let n = numbers[i];
-        if n < 64 {
-            s = Users(s).with(User(n as u16)).0;
+        if n < Users::LIMIT as u64 {
+            s = s.with(User(n as u16));
         }
         i += 1;
     }
-    s
+    s.word()
 }
 
 // 1 if a number is above 63.
@@ -186,7 +186,7 @@ fn above_of(numbers: &[u64]) -> u64
 {
     let mut i: usize = 0;
     while i < numbers.len() {
-        if numbers[i] >= 64 {
+        if numbers[i] >= Users::LIMIT as u64 {
             return 1;
         }
         i += 1;

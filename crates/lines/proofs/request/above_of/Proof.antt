@@ -26,6 +26,9 @@ mul-if1 c = omega arith
 shared-slice-read-if1 : tie.Need-shared-slice-read-if1 Inv-loop μ-loop
 shared-slice-read-if1 c = omega arith
 
+cast-if1 : tie.Need-cast-if1 Inv-loop μ-loop
+cast-if1 c = omega arith
+
 returns : tie.Need-returns Inv-loop μ-loop
 unfolding above
 returns c =
@@ -61,6 +64,7 @@ above-of-spec =
     loop-holds
     mul-if1
     shared-slice-read-if1
+    cast-if1
     returns
     add-i
     loop-less
