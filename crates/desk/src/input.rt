@@ -118,7 +118,7 @@ fn end_last(input: &mut [u8], u: Unread) -> Unread
 fn fail() -> Unread
     ensures { λ r. ⌜ r ≡ record { from = 0; to = 0; cut = false; ended = true; failed = true } ⌝ }
 {
-    io::write_all(STDERR_FILENO, b"desk: standard input can't be read\n");
+    io::write_all(STDERR_FILENO, b"fenstubble: standard input can't be read\n");
     Unread {
         from: 0,
         to: 0,
