@@ -44,12 +44,12 @@ fn empty_head(mode: Mode) -> Head
 {
     Head {
         mode,
-        users: Joined(0),
-        resources: Resources(0),
-        inner_vertices: InnerVertices(0),
-        inner_tokens: InnerTokens(0),
-        outer_vertices: OuterVertices(0),
-        outer_tokens: OuterTokens(0),
+        users: Joined::new(0),
+        resources: Resources::new(0),
+        inner_vertices: InnerVertices::new(0),
+        inner_tokens: InnerTokens::new(0),
+        outer_vertices: OuterVertices::new(0),
+        outer_tokens: OuterTokens::new(0),
     }
 }
 

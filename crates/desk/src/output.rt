@@ -23,7 +23,10 @@ pub enum Printed {
 pub fn write_out(text: &[u8]) -> bool {
     let written = io::write_all(STDOUT_FILENO, text);
     if !written {
-        io::write_all(STDERR_FILENO, b"fenstubble: standard output can't be written\n");
+        io::write_all(
+            STDERR_FILENO,
+            b"fenstubble: standard output can't be written\n",
+        );
     }
     written
 }
