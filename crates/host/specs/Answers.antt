@@ -2,7 +2,7 @@
 -- number is the result, and the cells, whose content at entry comes last among the arguments, stay as they were.
 -- Assumes nothing.
 use Prim.Native.Nat.{ℕ, zero, suc, _+_, _*_}
-use mathlib.Core.Bool.{Bool, cond}
+use mathlib.Core.Bool.{cond}
 use mathlib.Core.List.{List, [], _∷_}
 use mathlib.Core.Option.{Option, some, none}
 use lib.Dec.{ltb}
@@ -10,7 +10,7 @@ use lib.ListN.{length, getD}
 use Rattle.rows.specs.Number.{stored}
 use Rattle.rules.specs.Bytes.{Tables, bookIn, head, headIn, start}
 use Rattle.rules.specs.Refusals.{number, viewNumber, viewTold, common, verdict, Request}
-use Rattle.rules.specs.Calls.{Part, sectionCall, Load, readCall, Write, writeCall, Change, change, viewCall, Shown, openCall, Service, serveCall}
+use Rattle.rules.specs.Calls.{sectionCall, readCall, writeCall, Change, change, viewCall, openCall, Service, serveCall}
 use Rattle.rules.specs.declared.Head.{Head}
 use Rattle.rules.specs.declared.Refusal.{Refusal}
 use Rattle.rules.specs.declared.Changed.{Changed}

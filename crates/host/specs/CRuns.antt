@@ -4,7 +4,7 @@ use Prim.Native.Nat.{ℕ}
 use mathlib.Core.List.{List, [], _∷_, _++_}
 use Rattle.rules.specs.Book.{Book}
 use Rattle.rules.specs.Bytes.{Tables, bookIn}
-use Rattle.rules.specs.Refusals.{Request, joins, inserts, grants, revokes}
+use Rattle.rules.specs.Refusals.{joins, inserts, grants, revokes}
 use Rattle.rules.specs.Runs.{Kept, keep, Call, to-change, to-view, to-open, to-serve, to-read, to-write, to-show}
 use Rattle.host.specs.Answers.{headFrom, Loads, readAnswer, Changes, changeAnswer, Serves, serveAnswer}
 
@@ -24,8 +24,7 @@ keptIn s = keep (headFrom (s .numbers)) (s .tables)
 abbrev pub bookHeld : Held → Book
 bookHeld s = bookIn (headFrom (s .numbers)) (s .tables)
 
--- a call of include/fenstubble.h with what it takes beside head and tables, in the header's order: bytes and lists, the cells' content before the call,
--- numbers
+-- a call of include/fenstubble.h with what it takes beside head and tables, in the header's order; a cell by its content before the call
 pub data CCall : Type 0 where
   c-check : CCall
   c-section : List ℕ → ℕ → ℕ → ℕ → CCall

@@ -2,11 +2,11 @@
 use Prim.Native.Nat.{ℕ, zero, suc, _+_, _/_, _%_, _^_, _≤_, _<_}
 use mathlib.Core.Path.{_≡_, refl, sym, ap, _∙_}
 use mathlib.Core.List.{List, [], _∷_, _++_, append-assoc}
-use native.Mathlib.Nat.{pow-suc, add-assoc}
+use native.Mathlib.Nat.{pow-suc}
 use native.Mathlib.Numerals.{add-one}
 use native.Mathlib.Omega.{arith}
-use lib.ListN.{length, take, drop, set, length-append, length-take, length-set}
-use lib.Seq.{take-at, drop-at, drop-drop, set-split}
+use lib.ListN.{length, set, length-append, length-set}
+use lib.Seq.{set-split}
 use Rattle.rows.specs.Number.{stored}
 use Rattle.rows.proofs.Laws.{stored-none, stored-behind, length-stored}
 use Rattle.lines.specs.Answer.{digitsIn, digits, numeral, Puts}

@@ -6,10 +6,8 @@ use mathlib.Core.List.{List, [], _∷_, map}
 use native.Mathlib.Omega.{arith}
 use lib.ListN.{length, replicate, length-replicate}
 use Rattle.rules.specs.Sound.{sound}
-use Rattle.rules.specs.Bytes.{Tables}
 use Rattle.rules.specs.Calls.{rowsLent}
-use Rattle.rules.specs.Runs.{Kept, keep, bookOf, Call, headChanged, after, run}
-use Rattle.rules.specs.declared.Changed.{Changed}
+use Rattle.rules.specs.Runs.{Kept, keep, bookOf, headChanged, after, run}
 use Rattle.theorems.proofs.Demand.{Demand, demand-3}
 use Rattle.orders.specs.Runs.{RCall, on-records, another, afterR, runR, onNumbers}
 use Rattle.orders.proofs.Enough.{recorded-change}

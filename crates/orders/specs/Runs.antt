@@ -1,11 +1,11 @@
 -- Calls one after the other on what a host keeps (Rattle.rules.specs.Runs), some of them requests on records. Assumes nothing.
-use Prim.Native.Nat.{ℕ, _*_}
+use Prim.Native.Nat.{_*_}
 use mathlib.Core.List.{List, [], _∷_}
 use lib.ListN.{length, replicate}
 use Rattle.rules.specs.Refusals.{Request}
 use Rattle.rules.specs.Runs.{Kept, keep, Call, to-change, headChanged, after}
 use Rattle.rules.specs.declared.Order.{Order}
-use Rattle.orders.specs.Records.{Recorded, recorded}
+use Rattle.orders.specs.Records.{recorded}
 
 -- a request with the records that are lent to it, or a call of Rattle.rules.specs.Runs
 pub data RCall : Type 0 where

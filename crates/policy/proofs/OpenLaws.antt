@@ -24,7 +24,7 @@ use Rattle.rules.specs.Derivation.{Opens}
 use Rattle.rules.specs.Open.{chain, direct, innerChain, outerChain}
 use Rattle.rules.specs.Bytes.{Tables, tables, bookIn, setsIn, resourcesIn}
 use Rattle.rules.specs.Sound.{sound}
-use Rattle.rules.specs.Refusals.{common, verdict, noSuch, opened, viewNumber, refusalView, refusalOpen}
+use Rattle.rules.specs.Refusals.{common, verdict, noSuch, opened, viewNumber, ownOpen, refusalView, refusalOpen}
 use Rattle.rules.specs.Calls.{viewCall, viewCallBy, showing, openBy, openCall}
 use Rattle.rules.specs.declared.Head.{Head}
 use Rattle.rules.specs.declared.View.{View}
@@ -53,7 +53,7 @@ use Rattle.sound.specs.Check.{checkedBy, checked}
 use Rattle.sound.specs.declared.Checked.{Checked}
 use Rattle.sound.specs.declared.Checked.the-variants as checks
 use Rattle.plan.specs.Judge.{Ready}
-use Rattle.policy.specs.Open.{lengthsOf, openableBy, openable, ownOpen, Opening, innerRows, outerRows, knownIn, OuterThere, OuterNames, LetIn}
+use Rattle.policy.specs.Open.{lengthsOf, openableBy, openable, Opening, innerRows, outerRows, knownIn, OuterThere, OuterNames, LetIn}
 use Rattle.policy.specs.declared.open.Lengths.{Lengths}
 use Rattle.policy.specs.declared.open.Openable.{Openable}
 use Rattle.policy.specs.declared.open.Openable.the-variants.{Go, No}

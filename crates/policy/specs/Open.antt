@@ -5,7 +5,7 @@ use mathlib.Core.Path.{_≡_}
 use mathlib.Core.Bool.{Bool, true, false, _||_, not, cond}
 use mathlib.Core.List.{List, [], _∷_}
 use mathlib.Core.Option.{Option, some, none}
-use lib.Dec.{eqb, ltb}
+use lib.Dec.{eqb}
 use lib.ListN.{length}
 use Rattle.sets.specs.Sets.{has}
 use Rattle.rules.specs.Layer.{Layer, setOf}
@@ -14,11 +14,10 @@ use Rattle.rules.specs.Book as book
 use Rattle.rules.specs.Holders.{view}
 use Rattle.rules.specs.Open.{chain, direct, innerChain, outerChain}
 use Rattle.rules.specs.Bytes.{Tables, bookIn}
-use Rattle.rules.specs.Refusals.{verdict, noSuch, opened, viewNumber}
+use Rattle.rules.specs.Refusals.{verdict, ownOpen}
 use Rattle.rules.specs.declared.Head.{Head}
 use Rattle.rules.specs.declared.View.the-variants.{Open}
 use Rattle.rules.specs.declared.Refusal.{Refusal}
-use Rattle.rules.specs.declared.Refusal.the-variants.{NoSuch, Closed, ShortList}
 use Rattle.layer.specs.declared.walk.Shape.{Shape}
 use Rattle.plan.specs.Judge.{Ready}
 use Rattle.policy.specs.declared.open.Lengths.{Lengths}
@@ -32,15 +31,7 @@ unfoldable pub openableBy : Option Refusal → Lengths → Openable
 openableBy none k = Go k
 openableBy (some r) k = No r
 
--- 1, 11 and 10 (`refusalOpen`); `room` numbers or rows are lent for the chains
-abbrev pub ownOpen : Book → ℕ → ℕ → ℕ → List (Refusal × Bool)
-ownOpen b u r room =
-    (NoSuch, noSuch b u r)
-    ∷ (Closed (view b u r), not (eqb (viewNumber (view b u r)) 0))
-    ∷ (ShortList, ltb room (length (opened b u r)))
-    ∷ []
-
--- the first of them that holds, where 13 and 12 are excluded; else the chains' lengths
+-- the first of 1, 11 and 10 that holds, where 13 and 12 are excluded and `room` numbers or rows are lent for the chains; else the chains' lengths
 unfoldable pub openable : Book → ℕ → ℕ → ℕ → Openable
 openable b u r room = openableBy (verdict (ownOpen b u r room)) (lengthsOf b u r)
 

@@ -3,7 +3,7 @@
 -- Assumes nothing.
 use Prim.Native.Nat.{ℕ}
 use mathlib.Core.Path.{refl}
-use mathlib.Core.Bool.{false, cond}
+use mathlib.Core.Bool.{false}
 use mathlib.Core.List.{List, [], _∷_, _++_, map, flatMap}
 use Rattle.sets.specs.Sets.{sizeIn, size}
 use Rattle.rules.specs.Lists.{every, some, keep, first, pairwise, numbered, tabulateFrom, tabulate, upTo}
@@ -14,7 +14,7 @@ use Rattle.rules.specs.Sound.{lockedFor}
 use Rattle.rules.specs.Requests.{done, order, _then_, vertexOrders, innerVertex, outerVertex, relock, lock, unlock, lockList, agrees, withSet, join, encrypt, lockNew, insert, letIn, neighbours, grouped, lockAll, settle, grant, revoke}
 use Rattle.rules.specs.Refusals.{Request, work}
 use Rattle.rules.specs.Host.{Graph, Store, hasKey, addKey, addToken, putInner, putOuter, putKeys, putLock, spoil, canObey, made, obeyed, obey, isJoin, nothingMade, emptyStore}
-use Rattle.rules.specs.Numbers.{Right, deltaRun, fullRun}
+use Rattle.rules.specs.Numbers.{Right, bit, deltaRun, fullRun}
 use Rattle.rules.specs.declared.Order.{Order}
 
 -- a host that obeys the orders of requests one after the other
@@ -34,7 +34,7 @@ inNumbers g = g .vertices ++ (flatMap (λ t. t .from ∷ t .to ∷ t .kind ∷ [
 
 -- 1 for an order that spoils the store
 unfoldable pub spoils : Store → List Order → List ℕ
-spoils s os = map (λ o. cond (obeyed false o s .spoilt) 1 0) os
+spoils s os = map (λ o. bit (obeyed false o s .spoilt)) os
 
 -- no such kind; a vertex that has a key, or whose second number is not 0; tokens from and to vertices without keys; a lock with one
 unfoldable pub unobeyable : List Order
@@ -59,13 +59,13 @@ hosts =
     ∷ (deltaHost .keys, 3 ∷ 3 ∷ [])
     ∷ (map (deltaHost .lock) (0 ∷ 1 ∷ 2 ∷ []), 65535 ∷ 5 ∷ 65535 ∷ [])
     ∷ (fullHost .keys ++ (fullHost .lock 0 ∷ []), 0 ∷ 2 ∷ [])
-    ∷ (cond (deltaHost .spoilt) 1 0 ∷ cond (fullHost .spoilt) 1 0 ∷ [], 0 ∷ 0 ∷ [])
+    ∷ (bit (deltaHost .spoilt) ∷ bit (fullHost .spoilt) ∷ [], 0 ∷ 0 ∷ [])
     ∷ (spoils deltaHost unobeyable, 1 ∷ 1 ∷ 1 ∷ 1 ∷ 1 ∷ 1 ∷ 1 ∷ 1 ∷ 1 ∷ 1 ∷ 1 ∷ 1 ∷ 1 ∷ 1 ∷ 1 ∷ 1 ∷ [])
     ∷ (spoils deltaHost obeyable, 0 ∷ 0 ∷ 0 ∷ 0 ∷ 0 ∷ 0 ∷ 0 ∷ 0 ∷ 0 ∷ [])
     ∷ []
 
 pub host-examples : Right hosts
-unfolding Right hosts hostRun deltaHost fullHost inNumbers spoils unobeyable obeyable deltaRun fullRun work flatMap
+unfolding Right bit hosts hostRun deltaHost fullHost inNumbers spoils unobeyable obeyable deltaRun fullRun work flatMap
     hasKey addKey addToken putInner putOuter putKeys putLock spoil canObey made obeyed obey isJoin nothingMade emptyStore
     sizeIn size every some keep first pairwise numbered tabulateFrom tabulate upTo
     setOf ofSize bySize takes cover vertexFor found withVertex
