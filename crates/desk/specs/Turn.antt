@@ -49,6 +49,7 @@ pub record Starts (s : State) (t : Tables) (input : List ℕ) : Type 0 where
   pub none : s .filled ≡ 0
   pub going : s .going ≡ true
   pub fine : s .failed ≡ false
+  -- asked for, so that the caller has to show that its start is one from which the program's text is still printed
   pub begun : Begun (desk s t input [])
 
 pub record Holds (s : State) (t : Tables) (input out : List ℕ) : Type 0 where
@@ -59,7 +60,7 @@ pub record Holds (s : State) (t : Tables) (input out : List ℕ) : Type 0 where
   pub gathered : s .filled ≤ length out
   pub works : s .going ≡ true → s .failed ≡ false
 
--- the head and the buffers of a state that waits for input
+-- the buffers of a state that waits for input
 pub record Waits (s : State) (input out : List ℕ) : Type 0 where
   pub within : Within (s .unread) input
   pub last : Whole (pending (s .unread) input) (s .unread .ended)
@@ -97,6 +98,8 @@ pub record Turned (d e : Desk) : Type 0 where
   pub book≡ : e .book ≡ leaves (take lines (linesIn (d .input))) (d .book)
   pub text : gone ++ e .held ≡ d .held ++ answers (take lines (linesIn (d .input))) (d .book)
   pub rest : Follows (d .ended) (drop (span (take lines (linesIn (d .input)))) (d .input)) came (e .ended) (e .input)
+  -- where a whole line is there, at least one is taken
+  pub takes : lines ≡ 0 → linesIn (d .input) ≡ []
 
 -- all input is answered, and all answers are written out
 pub record Finished (d : Desk) : Type 0 where
