@@ -12,7 +12,7 @@ use Rattle.rules.specs.declared.Head.{Head}
 use Rattle.plan.specs.Judge.{Ready}
 use Rattle.lines.specs.Program.{linesIn, closed, span, answers, leaves, program}
 use Rattle.desk.specs.Input.{Within, pending, kept, Whole, Comes}
-use Rattle.desk.specs.Output.{filledTo, failedIn}
+use Rattle.desk.specs.Output.{longest, filledTo, failedIn}
 use Rattle.desk.specs.declared.State.{State}
 use Rattle.desk.specs.declared.input.Unread.{Unread}
 use Rattle.desk.specs.declared.output.Printed.{Printed}
@@ -68,11 +68,12 @@ pub record Waits (s : State) (input out : List ℕ) : Type 0 where
   pub gathered : s .filled ≤ length out
   pub works : s .going ≡ true → s .failed ≡ false
 
--- the lists of a block
-pub record Lent (requests answers orders : List ℕ) : Type 0 where
+-- the lists of a block, and the output buffer: any answer has room in it
+pub record Lent (requests answers orders out : List ℕ) : Type 0 where
   pub asked : 384 ≤ length requests
   pub told : 384 ≤ length answers
   pub rows : 18432 ≤ length orders
+  pub texts : longest ≤ length out
 
 -- the state after a block's answers
 pub record Printing (s : State) (h : Head) (u : Unread) (p : Printed) : Type 0 where

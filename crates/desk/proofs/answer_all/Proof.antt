@@ -74,7 +74,7 @@ slice-aggregate-turn-4 c = c .before .before .before .before .before .before .be
 
 turn-requires : tie.Need-turn-requires Inv-loop μ-loop
 turn-requires c κs =
-    let i = c .before .before .before .before .before .before .before .before .before .before .before .before .loop .inv in (i .10, record { asked = omega (arith, i .6); told = omega (arith, i .7); rows = omega (arith, i .8) })
+    let i = c .before .before .before .before .before .before .before .before .before .before .before .before .loop .inv in (i .10, record { asked = omega (arith, i .6); told = omega (arith, i .7); rows = omega (arith, i .8); texts = omega (arith, i .9) })
 
 sub-turns : tie.Need-sub-turns Inv-loop μ-loop
 sub-turns c = omega (arith, c .before .before .before .before .before .before .before .before .before .before .before .before .before .before .before .before .before .before .before .before .before .before .before .before .before .before .before .before .loop-test .taken)

@@ -58,7 +58,7 @@ answer-block-requires c κs =
       s .pre .0 .ready,
       (
         enough (read .result .rows) (read .last .1 .1 .0) (read .ensures .1 .0) (omega (arith, read .kept .1 .1 .0, s .pre .1 .asked)) (s .pre .1 .told) (s .pre .1 .rows) (read .ensures .1 .1 .0),
-        s .pre .0 .gathered,
+        (s .pre .0 .gathered, s .pre .1 .texts),
       ),
     )
 
