@@ -19,7 +19,7 @@ use Rattle.lines.specs.declared.request.First.the-variants as firsts
 use Rattle.lines.proofs.ProgramLaws.{behind, closed-taken, long-asks, long-first}
 use Rattle.rules.specs.Runs.{bookOf}
 use Rattle.theorems.proofs.RunLaws.{fresh, fresh-book}
-use Rattle.desk.specs.Input.{between, start, pending, Whole, Comes, noLine, lacksLine, Unless, More, Got, Opens, Opened, modeTaken}
+use Rattle.desk.specs.Input.{between, start, pending, Whole, Comes, noLine, lacksLine, Unless, More, Got, ReadSoFar, FirstRead, modeTaken}
 use Rattle.desk.specs.Block.{numbersOf, rowFor, rowsOf, lineCount, Takes, Reads, rowsAnswers, rowsLeave, Answers}
 use Rattle.desk.specs.Output.{filledTo, failedIn, Gathers}
 use Rattle.desk.specs.Turn.{Printing, Desk, desk, still, Begins, Follows, stays, reads, Finished, Goes, Run, rests, Ran, Runs, Awaits}
@@ -286,7 +286,7 @@ named u input m r e f = go (u .cut) refl (linesIn (between (u .from) (u .to) inp
         no-lines : l ∷ ls ≡ [] → ⊥
         no-lines p = let z : _≡_ {A = ℕ} 0 1 = cc in omega arith
 
-module _ (u : Unread) (input : List ℕ) (o : Opens u input) (m : Mode) (r : Taken) (e : r ≡ modeTaken u (u .cut) (linesIn (between (u .from) (u .to) input)))
+module _ (u : Unread) (input : List ℕ) (o : ReadSoFar u input) (m : Mode) (r : Taken) (e : r ≡ modeTaken u (u .cut) (linesIn (between (u .from) (u .to) input)))
     (f : r .first ≡ Of m) where
   pub mode-whole : Whole (pending (r .unread) input) (r .unread .ended)
   mode-whole h =
@@ -323,10 +323,10 @@ module _ (u : Unread) (input : List ℕ) (o : Opens u input) (m : Mode) (r : Tak
   prints-program s t hd un fi n g = n .prints g (o .came) (mode-begins s t [] hd un fi)
 
 -- a first line that names no mode: `no 14`, whatever follows
-module _ (u : Unread) (input : List ℕ) (k : Opened u input) (r : Taken) (e : r ≡ modeTaken u (u .cut) (linesIn (between (u .from) (u .to) input)))
+module _ (u : Unread) (input : List ℕ) (k : FirstRead u input) (r : Taken) (e : r ≡ modeTaken u (u .cut) (linesIn (between (u .from) (u .to) input)))
     (f : r .first ≡ firsts.Malformed) where
-  abbrev o : Opens u input
-  o = k .opens
+  abbrev o : ReadSoFar u input
+  o = k .soFar
 
   pub prints-refusal : (more : List ℕ) → Comes (u .ended) more → program (o .came ++ more) ≡ no14
   unfolding pending answered started lacksLine noLine linesIn closed

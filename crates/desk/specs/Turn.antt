@@ -52,14 +52,6 @@ pub record Starts (s : State) (t : Tables) (input : List ℕ) : Type 0 where
   -- asked for, so that the caller has to show that its start is one from which the program's text is still printed
   pub begun : Begun (desk s t input [])
 
-pub record Holds (s : State) (t : Tables) (input out : List ℕ) : Type 0 where
-  pub ready : Ready (s .head) t
-  pub within : Within (s .unread) input
-  pub last : Whole (pending (s .unread) input) (s .unread .ended)
-  pub long : 512 < length input
-  pub gathered : s .filled ≤ length out
-  pub works : s .going ≡ true → s .failed ≡ false
-
 -- the buffers of a state that waits for input
 pub record Waits (s : State) (input out : List ℕ) : Type 0 where
   pub within : Within (s .unread) input
@@ -67,6 +59,11 @@ pub record Waits (s : State) (input out : List ℕ) : Type 0 where
   pub long : 512 < length input
   pub gathered : s .filled ≤ length out
   pub works : s .going ≡ true → s .failed ≡ false
+
+-- between two turns
+pub record Holds (s : State) (t : Tables) (input out : List ℕ) : Type 0 where
+  pub ready : Ready (s .head) t
+  pub waits : Waits s input out
 
 -- the lists of a block, and the output buffer: any answer has room in it
 pub record Lent (requests answers orders out : List ℕ) : Type 0 where
