@@ -16,6 +16,7 @@ use output::Printed;
 use output::print_block;
 use output::refuse_start;
 use output::write_out;
+use policy::serve::REQUEST_WIDTH;
 use rules::Head;
 use rules::InnerTokens;
 use rules::InnerVertices;
@@ -189,7 +190,7 @@ fn turn(
         going: true,
         failed: false,
     };
-    let n = b.rows * 3;
+    let n = b.rows * REQUEST_WIDTH;
     if n == 0 {
         return wait(s, input, out);
     }

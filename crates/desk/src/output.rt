@@ -4,6 +4,8 @@ use libc::STDERR_FILENO;
 use libc::STDOUT_FILENO;
 use lines::answer::Put;
 use lines::answer::put_answer;
+use policy::serve::ANSWER_WIDTH;
+use rules::Order;
 ghost use mathlib.Core.Bool.{true};
 ghost use mathlib.Core.Path.{_≡_};
 ghost use mathlib.Core.List.{_∷_};
@@ -92,17 +94,17 @@ pub fn print_block(
     let mut end = filled;
     let mut used: usize = 0;
     let mut at: usize = 0;
-    while answers.len() - at >= 3 {
+    while answers.len() - at >= ANSWER_WIDTH {
         let number = number_told(requests[at], answers[at]);
         let view = answers[at + 1];
-        let next = used + wide(answers[at + 2]) * 3;
+        let next = used + wide(answers[at + 2]) * Order::WIDTH;
         let p = print_answer(number, view, &orders[used..next], out, end);
         let Printed::To(e) = p else {
             return Printed::Failed;
         };
         end = e;
         used = next;
-        at += 3;
+        at += ANSWER_WIDTH;
     }
     Printed::To(end)
 }
