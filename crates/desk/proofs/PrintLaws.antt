@@ -5,8 +5,8 @@ use mathlib.Core.Path.{_≡_, refl, sym, ap, ap₂, subst, _∙_}
 use mathlib.Core.Bool.{Bool, true, false, cond, _&&_, true≢false}
 use mathlib.Core.List.{List, [], _∷_, _++_, append-assoc, append-nil}
 use native.Mathlib.Omega.{arith}
-use lib.ListN.{length, take, drop, getD, length-append, length-take, length-drop}
 use lib.Dec.{leb}
+use lib.ListN.{length, take, drop, getD, length-append, length-take, length-drop}
 use lib.Seq.{take-at, drop-drop}
 use borrow.Author.Tests.{leb-true, le-leb}
 use Rattle.sets.proofs.Laws.{both}
@@ -19,6 +19,7 @@ use Rattle.lines.proofs.Passed.{next}
 use Rattle.desk.specs.Output.{neverMore, longest, told, Gathering, gathering, printAnswer, texts, Gathered}
 use Rattle.desk.specs.declared.output.Printed.{Printed}
 use Rattle.desk.specs.declared.output.Printed.the-variants.{To, Failed}
+use Rattle.desk.proofs.Laws.{row-next}
 
 -- ---- one answer
 
@@ -179,16 +180,10 @@ module _ (requests answers orders : List ℕ) (at used : ℕ) where
       ∷ texts (drop (at + 3) requests) (drop (at + 3) answers) (drop (used + c * 3) orders)
   unfolding texts
   texts-next h l {n} {c} e f =
-      let two : at + 1 + 1 ≡ at + 2 = omega arith in
-      let three : at + 2 + 1 ≡ at + 3 = omega arith in
       let here : getD (drop at requests) 0 0 ≡ getD requests at 0 = rw (next requests at (omega arith)) in
       let wide : used + c * 3 - used ≡ c * 3 = omega arith in
       rw (
-        next answers at (omega arith),
-        next answers (at + 1) (omega arith),
-        two,
-        next answers (at + 2) (omega arith),
-        three,
+        row-next answers at h,
         here,
         ← e,
         ← f,
@@ -212,10 +207,7 @@ module _ (requests answers orders : List ℕ) (at used : ℕ) where
 module _ (answers : List ℕ) (at : ℕ) (h : at + 3 ≤ length answers) (f : neverMore (drop at answers) ≡ true) where
   few-all : leb (getD answers (at + 2) 0) 385 && neverMore (drop (at + 3) answers) ≡ true
   unfolding neverMore
-  few-all =
-      let two : at + 1 + 1 ≡ at + 2 = omega arith in
-      let three : at + 2 + 1 ≡ at + 3 = omega arith in
-      sym (rw (next answers at (omega arith), next answers (at + 1) (omega arith), two, next answers (at + 2) (omega arith), three)) ∙ f
+  few-all = sym (ap neverMore (row-next answers at h)) ∙ f
 
   pub few-next : getD answers (at + 2) 0 ≤ 385
   few-next = leb-true (getD answers (at + 2) 0) 385 (both (leb (getD answers (at + 2) 0) 385) (neverMore (drop (at + 3) answers)) few-all .0)

@@ -75,7 +75,7 @@ pub record ReadSoFar (u : Unread) (input : List ℕ) : Type 0 where
   pub same : (more : List ℕ) → Comes (u .ended) more → program (came ++ more) ≡ answered (linesIn (closed (pending u input ++ more)))
   pub last : Whole (pending u input) (u .ended)
 
--- after them
+-- after them: the first line is whole, or the input has ended
 pub record FirstRead (u : Unread) (input : List ℕ) : Type 0 where
   pub soFar : ReadSoFar u input
   pub found : lacksLine u input ≡ false

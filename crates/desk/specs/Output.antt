@@ -43,7 +43,7 @@ neverMore (n ∷ []) = true
 neverMore (n ∷ v ∷ []) = true
 neverMore (n ∷ v ∷ c ∷ rows) = leb c 385 && neverMore rows
 
--- the bytes for which room is asked for so many rows: every answer has room at the front of a buffer of that length
+-- the room that is asked for with the most rows: in a buffer of so many bytes every answer has room at the front
 abbrev pub longest : ℕ
 longest = 24 + 18 * 385
 
