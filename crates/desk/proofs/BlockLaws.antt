@@ -10,7 +10,7 @@ use mathlib.Core.Option.{Option, some, none, Option·some-ne-none}
 use native.Mathlib.Omega.{arith}
 use lib.Dec.{eqb, ltb}
 use lib.ListN.{length, take, drop, getD, length-drop}
-use borrow.Author.Tests.{le-ltb, eqb-true, eqb-false, not-true, not-false, ltb-true, ne-eqb}
+use borrow.Author.Tests.{le-ltb, le-leb, eqb-true, eqb-false, not-true, not-false, ltb-true, ne-eqb}
 use Rattle.sets.proofs.Laws.{both, either}
 use Rattle.rows.specs.Number.{stored}
 use Rattle.rows.proofs.Laws.{length-stored, stored-first}
@@ -42,7 +42,7 @@ use Rattle.plan.specs.Judge as plan
 use Rattle.lines.specs.Answer.{answerText}
 use Rattle.lines.specs.Program.{Told, refused, changeTold, openTold, answerTo}
 use Rattle.desk.specs.Block.{mostOf, mostIn, Enough, Answered}
-use Rattle.desk.specs.Output.{counts, neverTen}
+use Rattle.desk.specs.Output.{counts, neverTen, neverMore}
 
 -- ---- the most rows of what is asked
 
@@ -67,6 +67,14 @@ most-asked (suc (suc zero)) a b = omega arith
 most-asked (suc (suc (suc zero))) a b = omega arith
 most-asked (suc (suc (suc (suc zero)))) a b = omega arith
 most-asked (suc (suc (suc (suc (suc k))))) a b = omega arith
+
+most-few : (q : Asked) → mostAsked q ≤ 385
+most-few (changes joins) = omega arith
+most-few (changes (inserts l)) = omega arith
+most-few (changes (grants r u)) = omega arith
+most-few (changes (revokes r u)) = omega arith
+most-few (opens u r) = omega arith
+most-few nothing = omega arith
 
 -- ---- request rows, the first and the others
 
@@ -336,6 +344,7 @@ pub record AllRoomy (qs : List Asked) (a : All) : Type 0 where
   pub counted : counts (a .answers) ≡ a .used
   pub long : length (a .answers) ≡ length qs * 3
   pub never : neverTen (a .answers) ≡ true
+  pub short : neverMore (a .answers) ≡ true
 
 -- the order rows left for the others
 pub rest-room : (q : Asked) (h : Head) (t : Tables) (list : List ℕ) (m : ℕ) → one q h t list .count + m ≤ rowsLent list
@@ -348,8 +357,8 @@ rest-room q h t list m e =
     rw length-drop (omega arith)
 
 pub all-roomy : (qs : List Asked) (h : Head) (t : Tables) (list : List ℕ) → Ready (keep h t) → mostAll qs ≤ rowsLent list → AllRoomy qs (all qs h t list)
-unfolding all mostAll counts neverTen
-all-roomy [] h t list k m = record { few = omega arith; counted = refl; long = refl; never = refl }
+unfolding all mostAll counts neverTen neverMore
+all-roomy [] h t list k m = record { few = omega arith; counted = refl; long = refl; never = refl; short = refl }
 all-roomy (q ∷ qs) h t list k m =
     let o : One = one q h t list in
     let r : Roomy (mostAsked q) (answerTo q (bookIn h t)) o = one-roomy h t list k q (omega arith) in
@@ -361,6 +370,7 @@ all-roomy (q ∷ qs) h t list k m =
       counted = ap (λ (x : List ℕ). counts (x ++ rest)) (r .row) ∙ ap (λ (n : ℕ). o .count + n) (i .counted);
       long = ap (λ (x : List ℕ). length (x ++ rest)) (r .row) ∙ omega (arith, i .long);
       never = ap (λ (x : List ℕ). neverTen (x ++ rest)) (r .row) ∙ rw (ne-eqb (r .number′) 10 (r .never)) (i .never);
+      short = ap (λ (x : List ℕ). neverMore (x ++ rest)) (r .row) ∙ rw (le-leb (o .count) 385 (omega (arith, r .few, most-few q))) (i .short);
     }
 
 -- ---- the call
@@ -422,4 +432,5 @@ module _ (requests : List ℕ) (h : Head) (t : Tables) (answers list : List ℕ)
         serves = rw (done, left) after-ready;
         within = omega (arith, ap counts rows, roomy .counted, used-few, ap length list-is, list-long);
         never = ap neverTen rows ∙ roomy .never;
+        few = ap neverMore rows ∙ roomy .short;
       }

@@ -19,7 +19,7 @@ use Rattle.lines.specs.declared.request.First.the-variants as firsts
 use Rattle.lines.proofs.ProgramLaws.{behind, closed-taken, long-asks, long-first}
 use Rattle.rules.specs.Runs.{bookOf}
 use Rattle.theorems.proofs.RunLaws.{fresh, fresh-book}
-use Rattle.desk.specs.Input.{between, start, pending, Whole, Comes, noLine, lacksLine, Unless, More, Got, Opens, Opened, modeTaken}
+use Rattle.desk.specs.Input.{between, start, pending, Whole, Comes, noLine, lacksLine, Unless, More, Got, ReadSoFar, FirstRead, modeTaken}
 use Rattle.desk.specs.Block.{numbersOf, rowFor, rowsOf, lineCount, Takes, Reads, rowsAnswers, rowsLeave, Answers}
 use Rattle.desk.specs.Output.{filledTo, failedIn, Gathers}
 use Rattle.desk.specs.Turn.{Printing, Desk, desk, still, Begins, Follows, stays, reads, Finished, Goes, Run, rests, Ran, Runs, Awaits}
@@ -122,10 +122,13 @@ module _ (u : Unread) (input : List ℕ) (b : Block) (requests : List ℕ) (r : 
     unfolding span
     block-same = block-left ∙ ap (λ (n : ℕ). drop (span (take n (linesIn (pending u input)))) (pending u input)) z
 
-    pub block-none : linesIn (pending (b .unread) input) ≡ []
-    block-none =
+    pub block-lacks : linesIn (pending u input) ≡ []
+    block-lacks =
         let none′ : mine ≡ [] = takes-none (u .cut) (u .from) mine (subst (λ (n : ℕ). Takes 128 6144 (u .cut) (u .from) mine n (take (b .rows * 3) requests) (b .unread .from) (b .unread .cut)) z (r .takes)) in
-        ap linesIn block-same ∙ (pending-lines u input ∙ ap (behind (start (u .cut))) none′)
+        pending-lines u input ∙ ap (behind (start (u .cut))) none′
+
+    pub block-none : linesIn (pending (b .unread) input) ≡ []
+    block-none = ap linesIn block-same ∙ block-lacks
 
   -- the last line keeps its newline
   pub block-whole : Whole (pending u input) (u .ended) → Whole (pending (b .unread) input) (b .unread .ended)
@@ -148,10 +151,11 @@ module _ (s : State) (t : Tables) (input out : List ℕ) (last : Whole (pending 
         ended : w .unread .ended ≡ s .unread .ended
         ended = ap (λ (x : Unread). x .ended) wu ∙ r .ended≡
 
+        none : linesIn (pending (s .unread) input) ≡ []
+        none = block-lacks (s .unread) input b requests r z
+
         nothing-left : w .unread .ended ≡ true → pending (s .unread) input ≡ []
-        nothing-left f =
-            none-left (pending (s .unread) input) (ap linesIn (sym (block-same (s .unread) input b requests r z)) ∙ block-none (s .unread) input b requests r z)
-            (last (sym ended ∙ f))
+        nothing-left f = none-left (pending (s .unread) input) none (last (sym ended ∙ f))
 
         finished : (a : Awaits w input e now) → w .unread .ended ≡ true → Follows (w .unread .ended) (pending (w .unread) input) (a .came) (e .unread .ended) (pending (e .unread) now)
             → Finished (desk e t′ now out′)
@@ -170,6 +174,7 @@ module _ (s : State) (t : Tables) (input out : List ℕ) (last : Whole (pending 
                 text = ap (λ (n : ℕ). take (s .filled) out ++ take n out′) (a .sent);
                 rest = subst (λ (x : Bool). Follows x (pending (s .unread) input) (a .came) (e .unread .ended) (pending (e .unread) now)) ended
                     (subst (λ (x : List ℕ). Follows (w .unread .ended) x (a .came) (e .unread .ended) (pending (e .unread) now)) same (a .rest));
+                takes = λ _. none;
               };
               stops = λ f. finished a (a .stops f) (a .rest);
             }
@@ -196,6 +201,7 @@ module _ (s : State) (t : Tables) (input out : List ℕ) (last : Whole (pending 
                 text = a .text ∙ ap (λ (x : List ℕ). take (s .filled) out ++ x) (block-answers (s .unread) input b requests r (bookIn (s .head) t));
                 rest = stays refl (ap (λ (x : Unread). x .ended) eu ∙ r .ended≡)
                     (ap₂ (λ (x : Unread) (y : List ℕ). pending x y) eu i ∙ block-left (s .unread) input b requests r);
+                takes = block-lacks (s .unread) input b requests r;
               };
               stops = λ h. absurd (true≢false (sym (ap not f) ∙ (sym g ∙ h)));
             }
@@ -280,7 +286,7 @@ named u input m r e f = go (u .cut) refl (linesIn (between (u .from) (u .to) inp
         no-lines : l ∷ ls ≡ [] → ⊥
         no-lines p = let z : _≡_ {A = ℕ} 0 1 = cc in omega arith
 
-module _ (u : Unread) (input : List ℕ) (o : Opens u input) (m : Mode) (r : Taken) (e : r ≡ modeTaken u (u .cut) (linesIn (between (u .from) (u .to) input)))
+module _ (u : Unread) (input : List ℕ) (o : ReadSoFar u input) (m : Mode) (r : Taken) (e : r ≡ modeTaken u (u .cut) (linesIn (between (u .from) (u .to) input)))
     (f : r .first ≡ Of m) where
   pub mode-whole : Whole (pending (r .unread) input) (r .unread .ended)
   mode-whole h =
@@ -317,10 +323,10 @@ module _ (u : Unread) (input : List ℕ) (o : Opens u input) (m : Mode) (r : Tak
   prints-program s t hd un fi n g = n .prints g (o .came) (mode-begins s t [] hd un fi)
 
 -- a first line that names no mode: `no 14`, whatever follows
-module _ (u : Unread) (input : List ℕ) (k : Opened u input) (r : Taken) (e : r ≡ modeTaken u (u .cut) (linesIn (between (u .from) (u .to) input)))
+module _ (u : Unread) (input : List ℕ) (k : FirstRead u input) (r : Taken) (e : r ≡ modeTaken u (u .cut) (linesIn (between (u .from) (u .to) input)))
     (f : r .first ≡ firsts.Malformed) where
-  abbrev o : Opens u input
-  o = k .opens
+  abbrev o : ReadSoFar u input
+  o = k .soFar
 
   pub prints-refusal : (more : List ℕ) → Comes (u .ended) more → program (o .came ++ more) ≡ no14
   unfolding pending answered started lacksLine noLine linesIn closed

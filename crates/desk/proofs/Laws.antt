@@ -53,12 +53,16 @@ put-within number view rows out at {p} {end} {now} h e w = go (roomFor rows at o
             let z : _≡_ {A = ℕ} 0 1 = cc in
             omega arith
 
-pub counts-next : (rows : List ℕ) (k : ℕ) → k + 3 ≤ length rows → counts (drop k rows) ≡ getD rows (k + 2) 0 + counts (drop (k + 3) rows)
-unfolding counts
-counts-next rows k h =
+-- the row at a place, and those behind it
+pub row-next : (rows : List ℕ) (k : ℕ) → k + 3 ≤ length rows → drop k rows ≡ getD rows k 0 ∷ getD rows (k + 1) 0 ∷ getD rows (k + 2) 0 ∷ drop (k + 3) rows
+row-next rows k h =
     let two : k + 1 + 1 ≡ k + 2 = omega arith in
     let three : k + 2 + 1 ≡ k + 3 = omega arith in
     rw (next rows k (omega arith), next rows (k + 1) (omega arith), two, next rows (k + 2) (omega arith), three)
+
+pub counts-next : (rows : List ℕ) (k : ℕ) → k + 3 ≤ length rows → counts (drop k rows) ≡ getD rows (k + 2) 0 + counts (drop (k + 3) rows)
+unfolding counts
+counts-next rows k h = ap counts (row-next rows k h)
 
 -- ---- the row of a line
 

@@ -16,7 +16,7 @@ use Rattle.rules.specs.Book.{Book}
 use Rattle.lines.specs.Request.{longer}
 use Rattle.lines.specs.Program.{newline, linesIn, closed, span, answers, answered, program}
 use Rattle.lines.proofs.ProgramLaws.{behind, start-lines, start-closed, closed-left, closed-twice, long-start, long-first}
-use Rattle.desk.specs.Input.{between, Within, start, pending, Whole, Comes, noLine, lacksLine, kept, Unless, More, Got, Opens, Opened, tooLong, Kept, Keeps, Ends}
+use Rattle.desk.specs.Input.{between, Within, start, pending, Whole, Comes, noLine, lacksLine, kept, Unless, More, Got, ReadSoFar, FirstRead, tooLong, Kept, Keeps, Ends}
 use Rattle.desk.specs.declared.input.Unread.{Unread}
 use Rattle.desk.proofs.LineLaws.{drop-take, part-long, part-next, part-none}
 
@@ -293,16 +293,16 @@ pub unless-not : {z : Bool} {P : Type 0} → z ≡ false → Unless z P → P
 unless-not {z} {P} e p = subst (λ (x : Bool). Unless x P) e p
 
 -- nothing is read yet
-pub opens-none : (input : List ℕ) → Opens (record { from = 0; to = 0; cut = false; ended = false; failed = false }) input
+pub so-far-none : (input : List ℕ) → ReadSoFar (record { from = 0; to = 0; cut = false; ended = false; failed = false }) input
 unfolding pending start program
-opens-none input = record { came = []; same = λ more h. refl; last = λ h. absurd (true≢false (sym h)) }
+so-far-none input = record { came = []; same = λ more h. refl; last = λ h. absurd (true≢false (sym h)) }
 
 -- one read more
-pub opens-more : (u : Unread) (input : List ℕ) (r : Unread) (now : List ℕ) → Opens u input → lacksLine u input ≡ true → Got u input r now → Unless (r .failed) (Opens r now)
-opens-more u input r now o h g = go (r .failed) (g .more)
+pub so-far-more : (u : Unread) (input : List ℕ) (r : Unread) (now : List ℕ) → ReadSoFar u input → lacksLine u input ≡ true → Got u input r now → Unless (r .failed) (ReadSoFar r now)
+so-far-more u input r now o h g = go (r .failed) (g .more)
   where
-    open′ : More u input r now → Opens r now
-    open′ m =
+    more′ : More u input r now → ReadSoFar r now
+    more′ m =
         let (ended, none′) = lacks-none u input h in
         record {
           came = o .came ++ m .came;
@@ -314,24 +314,24 @@ opens-more u input r now o h g = go (r .failed) (g .more)
           last = g .last;
         }
 
-    go : (z : Bool) → Unless z (More u input r now) → Unless z (Opens r now)
+    go : (z : Bool) → Unless z (More u input r now) → Unless z (ReadSoFar r now)
     go true m = tt
-    go false m = open′ m
+    go false m = more′ m
 
-pub opens-again : (u : Unread) (input : List ℕ) (r : Unread) (now : List ℕ) → (u .failed ≡ true → u .ended ≡ true) → Unless (u .failed) (Opens u input)
-    → lacksLine u input ≡ true → Got u input r now → Unless (r .failed) (Opens r now)
-opens-again u input r now f o h g = go (u .failed) refl o
+pub so-far-again : (u : Unread) (input : List ℕ) (r : Unread) (now : List ℕ) → (u .failed ≡ true → u .ended ≡ true) → Unless (u .failed) (ReadSoFar u input)
+    → lacksLine u input ≡ true → Got u input r now → Unless (r .failed) (ReadSoFar r now)
+so-far-again u input r now f o h g = go (u .failed) refl o
   where
-    go : (z : Bool) → u .failed ≡ z → Unless z (Opens u input) → Unless (r .failed) (Opens r now)
+    go : (z : Bool) → u .failed ≡ z → Unless z (ReadSoFar u input) → Unless (r .failed) (ReadSoFar r now)
     go true e o = absurd (true≢false (sym (f e) ∙ lacks-none u input h .0))
-    go false e o = opens-more u input r now o h g
+    go false e o = so-far-more u input r now o h g
 
-pub opened : (u : Unread) (input : List ℕ) → Unless (u .failed) (Opens u input) → lacksLine u input ≡ false → Unless (u .failed) (Opened u input)
-opened u input o f = go (u .failed) o
+pub first-read : (u : Unread) (input : List ℕ) → Unless (u .failed) (ReadSoFar u input) → lacksLine u input ≡ false → Unless (u .failed) (FirstRead u input)
+first-read u input o f = go (u .failed) o
   where
-    go : (z : Bool) → Unless z (Opens u input) → Unless z (Opened u input)
+    go : (z : Bool) → Unless z (ReadSoFar u input) → Unless z (FirstRead u input)
     go true o = tt
-    go false o = record { opens = o; found = f }
+    go false o = record { soFar = o; found = f }
 
-pub opened-failed : {r : Unread} (now : List ℕ) → r ≡ record { from = 0; to = 0; cut = false; ended = true; failed = true } → Within r now × Unless (r .failed) (Opened r now)
-opened-failed now e = rw e (record { ordered = omega arith; inside = omega arith }, tt)
+pub first-failed : {r : Unread} (now : List ℕ) → r ≡ record { from = 0; to = 0; cut = false; ended = true; failed = true } → Within r now × Unless (r .failed) (FirstRead r now)
+first-failed now e = rw e (record { ordered = omega arith; inside = omega arith }, tt)

@@ -1,21 +1,25 @@
 -- What the output buffer holds after an answer, and after those of a block.
 -- Assumes nothing.
-use Prim.Native.Nat.{ℕ, zero, suc, _+_, _*_, _-_, _≤_, _<_}
+use Prim.Native.Nat.{ℕ, zero, suc, _+_, _*_, _-_, _/_, _≤_, _<_}
 use mathlib.Core.Path.{_≡_, refl, sym, ap, ap₂, subst, _∙_}
-use mathlib.Core.Bool.{Bool, true, false, cond, _&&_}
+use mathlib.Core.Bool.{Bool, true, false, cond, _&&_, true≢false}
 use mathlib.Core.List.{List, [], _∷_, _++_, append-assoc, append-nil}
 use native.Mathlib.Omega.{arith}
+use lib.Dec.{leb}
 use lib.ListN.{length, take, drop, getD, length-append, length-take, length-drop}
 use lib.Seq.{take-at, drop-drop}
+use borrow.Author.Tests.{leb-true, le-leb}
+use Rattle.sets.proofs.Laws.{both}
 use Rattle.rows.specs.Number.{stored, joined}
 use Rattle.rows.proofs.Laws.{stored-first}
 use Rattle.lines.specs.Answer.{answerText, roomFor, writing, Written, putAnswer}
 use Rattle.lines.specs.declared.answer.Put.{Put}
 use Rattle.lines.specs.declared.answer.Put.the-variants as put
 use Rattle.lines.proofs.Passed.{next}
-use Rattle.desk.specs.Output.{told, Gathering, gathering, printAnswer, texts, Gathered}
+use Rattle.desk.specs.Output.{neverMore, longest, told, Gathering, gathering, printAnswer, texts, Gathered}
 use Rattle.desk.specs.declared.output.Printed.{Printed}
 use Rattle.desk.specs.declared.output.Printed.the-variants.{To, Failed}
+use Rattle.desk.proofs.Laws.{row-next}
 
 -- ---- one answer
 
@@ -87,13 +91,13 @@ module _ (number view : ℕ) (rows : List ℕ) where
       print-front {q} {end} {now} f v =
           let r : Room out 0 end now = put-room (ap (λ (x : Put). writing x now) (sym f) ∙ v ∙ ap (λ (x : List ℕ). putAnswer number view rows x 0) (none .same)) in
           let ends : end ≡ length text = omega (arith, r .ends) in
-          rw (none .room, r .room, ends, r .holds)
+          rw (none .room, ends, r .holds)
 
-      pub print-long : {q : Put} {now : List ℕ} → q ≡ put.Full → writing q now ≡ putAnswer number view rows mid 0 → gathering Failed now ≡ printAnswer true number view rows out at
-      unfolding printAnswer
-      print-long {q} {now} f v =
+      -- it has room at the front
+      pub print-never : roomFor rows 0 out ≡ true → {q : Put} {now : List ℕ} → q ≡ put.Full → writing q now ≡ putAnswer number view rows mid 0 → ⊥
+      print-never k {q} {now} f v =
           let r : Full out 0 now = put-full (ap (λ (x : Put). writing x now) (sym f) ∙ v ∙ ap (λ (x : List ℕ). putAnswer number view rows x 0) (none .same)) in
-          rw (none .room, r .room, r .same)
+          true≢false (sym k ∙ r .room)
 
 -- ---- the pieces that a block gathers
 
@@ -162,10 +166,10 @@ module _ (number view : ℕ) (rows out : List ℕ) (at : ℕ) (written : Bool) (
 
       go : (z : Bool)
           → gathering (To e) now ≡ cond z (gathering (To (at + length text′)) (stored at text′ out))
-          (cond (written && roomFor rows 0 out) (gathering (To (length text′)) (stored 0 text′ out)) (gathering Failed out))
+          (cond written (gathering (To (length text′)) (stored 0 text′ out)) (gathering Failed out))
           → Gathered (take at out ∷ text′ ∷ rest) r fin
       go true w = behind w
-      go false w = front (written && roomFor rows 0 out) w
+      go false w = front written w
 
 -- ---- the texts still to come
 
@@ -176,16 +180,10 @@ module _ (requests answers orders : List ℕ) (at used : ℕ) where
       ∷ texts (drop (at + 3) requests) (drop (at + 3) answers) (drop (used + c * 3) orders)
   unfolding texts
   texts-next h l {n} {c} e f =
-      let two : at + 1 + 1 ≡ at + 2 = omega arith in
-      let three : at + 2 + 1 ≡ at + 3 = omega arith in
       let here : getD (drop at requests) 0 0 ≡ getD requests at 0 = rw (next requests at (omega arith)) in
       let wide : used + c * 3 - used ≡ c * 3 = omega arith in
       rw (
-        next answers at (omega arith),
-        next answers (at + 1) (omega arith),
-        two,
-        next answers (at + 2) (omega arith),
-        three,
+        row-next answers at h,
         here,
         ← e,
         ← f,
@@ -203,3 +201,23 @@ module _ (requests answers orders : List ℕ) (at used : ℕ) where
       go (x ∷ []) l = refl
       go (x ∷ y ∷ []) l = refl
       go (x ∷ y ∷ z ∷ xs) l = absurd (omega arith)
+
+-- ---- the longest answer
+
+module _ (answers : List ℕ) (at : ℕ) (h : at + 3 ≤ length answers) (f : neverMore (drop at answers) ≡ true) where
+  few-all : leb (getD answers (at + 2) 0) 385 && neverMore (drop (at + 3) answers) ≡ true
+  unfolding neverMore
+  few-all = sym (ap neverMore (row-next answers at h)) ∙ f
+
+  pub few-next : getD answers (at + 2) 0 ≤ 385
+  few-next = leb-true (getD answers (at + 2) 0) 385 (both (leb (getD answers (at + 2) 0) 385) (neverMore (drop (at + 3) answers)) few-all .0)
+
+  pub few-rest : neverMore (drop (at + 3) answers) ≡ true
+  few-rest = both (leb (getD answers (at + 2) 0) 385) (neverMore (drop (at + 3) answers)) few-all .1
+
+-- has room at the front
+pub room-front : (c used : ℕ) (orders out : List ℕ) → c ≤ 385 → longest ≤ length out → roomFor (take (used + c * 3 - used) (drop used orders)) 0 out ≡ true
+unfolding roomFor
+room-front c used orders out f l =
+    let rows : List ℕ = take (used + c * 3 - used) (drop used orders) in
+    le-leb (24 + 18 * (length rows / 3)) (length out - 0) (omega (arith, length-take (used + c * 3 - used) (drop used orders)))

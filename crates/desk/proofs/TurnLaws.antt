@@ -44,7 +44,7 @@ pub last-by : {u v : Unread} (input : List ℕ) → u ≡ v → Whole (pending v
 last-by {u} {v} input e x = subst (λ (z : Unread). Whole (pending z input) (z .ended)) (sym e) x
 
 pub holds-waits : {s : State} {h : Head} {t : Tables} {input out : List ℕ} → Ready h t → s .head ≡ h → Waits s input out → Holds s t input out
-holds-waits k e w = record { ready = ready-by e k; within = w .within; last = w .last; long = w .long; gathered = w .gathered; works = w .works }
+holds-waits k e w = record { ready = ready-by e k; waits = w }
 
 -- the rows that were read, and what is lent for their answers and orders
 pub enough : (rows : ℕ) (requests : List ℕ) {answers orders : List ℕ} → rows ≤ 128 → 384 ≤ length requests → 384 ≤ length answers → 18432 ≤ length orders

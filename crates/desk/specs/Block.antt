@@ -12,7 +12,7 @@ use Rattle.rules.specs.declared.Served.{Served}
 use Rattle.rules.specs.declared.Served.the-variants.{Done, No}
 use Rattle.plan.specs.Judge.{Ready}
 use Rattle.desk.specs.Input.{between}
-use Rattle.desk.specs.Output.{counts, neverTen}
+use Rattle.desk.specs.Output.{counts, neverTen, neverMore}
 use Rattle.desk.specs.declared.block.Block.{Block}
 use Rattle.desk.specs.declared.input.Unread.{Unread}
 use Rattle.lines.specs.Request.{asking, lineAsks}
@@ -127,3 +127,4 @@ pub record Answered (s : Served) (t : Tables) (answers orders : List ℕ) : Type
   pub serves : Serves s t
   pub within : counts answers * 3 ≤ length orders
   pub never : neverTen answers ≡ true
+  pub few : neverMore answers ≡ true

@@ -70,13 +70,14 @@ pub record Got (u : Unread) (input : List ℕ) (r : Unread) (now : List ℕ) : T
   pub more : Unless (r .failed) (More u input r now)
 
 -- the reads until the first line is whole: the program prints the same for what is pending as for all that came, whatever follows
-pub record Opens (u : Unread) (input : List ℕ) : Type 0 where
+pub record ReadSoFar (u : Unread) (input : List ℕ) : Type 0 where
   pub came : List ℕ
   pub same : (more : List ℕ) → Comes (u .ended) more → program (came ++ more) ≡ answered (linesIn (closed (pending u input ++ more)))
   pub last : Whole (pending u input) (u .ended)
 
-pub record Opened (u : Unread) (input : List ℕ) : Type 0 where
-  pub opens : Opens u input
+-- after them: the first line is whole, or the input has ended
+pub record FirstRead (u : Unread) (input : List ℕ) : Type 0 where
+  pub soFar : ReadSoFar u input
   pub found : lacksLine u input ≡ false
 
 -- ---- an unfinished line

@@ -4,7 +4,7 @@ use Prim.Native.Nat.{ℕ, _+_, _*_, _≤_, _<_}
 use mathlib.Core.Path.{_≡_}
 use mathlib.Core.Bool.{Bool, true, false, _&&_, not, cond}
 use mathlib.Core.List.{List, [], _∷_}
-use lib.Dec.{eqb}
+use lib.Dec.{eqb, leb}
 use lib.ListN.{length, take, drop, getD}
 use Rattle.rows.specs.Number.{stored, joined}
 use Rattle.lines.specs.Answer.{answerText, roomFor}
@@ -36,6 +36,17 @@ neverTen (n ∷ []) = true
 neverTen (n ∷ v ∷ []) = true
 neverTen (n ∷ v ∷ c ∷ rows) = not (eqb n 10) && neverTen rows
 
+-- none of them counts more order rows than a grant may give, the most of any request
+unfoldable pub neverMore : List ℕ → Bool
+neverMore [] = true
+neverMore (n ∷ []) = true
+neverMore (n ∷ v ∷ []) = true
+neverMore (n ∷ v ∷ c ∷ rows) = leb c 385 && neverMore rows
+
+-- the room that is asked for with the most rows: in a buffer of so many bytes every answer has room at the front
+abbrev pub longest : ℕ
+longest = 24 + 18 * 385
+
 -- the number that a line is answered with: 14 where its row is that of a malformed line
 unfoldable pub told : ℕ → ℕ → ℕ
 told kind number = cond (eqb kind 14) 14 number
@@ -50,12 +61,12 @@ pub record Gathering : Type 0 where
 abbrev pub gathering : Printed → List ℕ → Gathering
 gathering p out = record { answer = p; out = out }
 
--- behind those gathered; where it has no room there, at the front, if those could be written out and it has room there
+-- behind those gathered; where it has no room there, at the front, if those could be written out: it fails where they could not, and only there
 unfoldable pub printAnswer : Bool → ℕ → ℕ → List ℕ → List ℕ → ℕ → Gathering
 printAnswer written number view rows out filled =
     let text = answerText number view rows in
     cond (roomFor rows filled out) (gathering (To (filled + length text)) (stored filled text out))
-    (cond (written && roomFor rows 0 out) (gathering (To (length text)) (stored 0 text out)) (gathering Failed out))
+    (cond written (gathering (To (length text)) (stored 0 text out)) (gathering Failed out))
 
 -- one of the two: nothing says beforehand whether the output can be written
 pub record Prints (number view : ℕ) (rows out : List ℕ) (filled : ℕ) (p : Printed) (now : List ℕ) : Type 0 where

@@ -12,7 +12,7 @@ use Rattle.rules.specs.declared.Head.{Head}
 use Rattle.plan.specs.Judge.{Ready}
 use Rattle.lines.specs.Program.{linesIn, closed, span, answers, leaves, program}
 use Rattle.desk.specs.Input.{Within, pending, kept, Whole, Comes}
-use Rattle.desk.specs.Output.{filledTo, failedIn}
+use Rattle.desk.specs.Output.{longest, filledTo, failedIn}
 use Rattle.desk.specs.declared.State.{State}
 use Rattle.desk.specs.declared.input.Unread.{Unread}
 use Rattle.desk.specs.declared.output.Printed.{Printed}
@@ -49,17 +49,10 @@ pub record Starts (s : State) (t : Tables) (input : List ℕ) : Type 0 where
   pub none : s .filled ≡ 0
   pub going : s .going ≡ true
   pub fine : s .failed ≡ false
+  -- asked for, so that the caller has to show that its start is one from which the program's text is still printed
   pub begun : Begun (desk s t input [])
 
-pub record Holds (s : State) (t : Tables) (input out : List ℕ) : Type 0 where
-  pub ready : Ready (s .head) t
-  pub within : Within (s .unread) input
-  pub last : Whole (pending (s .unread) input) (s .unread .ended)
-  pub long : 512 < length input
-  pub gathered : s .filled ≤ length out
-  pub works : s .going ≡ true → s .failed ≡ false
-
--- the head and the buffers of a state that waits for input
+-- the buffers of a state that waits for input
 pub record Waits (s : State) (input out : List ℕ) : Type 0 where
   pub within : Within (s .unread) input
   pub last : Whole (pending (s .unread) input) (s .unread .ended)
@@ -67,11 +60,17 @@ pub record Waits (s : State) (input out : List ℕ) : Type 0 where
   pub gathered : s .filled ≤ length out
   pub works : s .going ≡ true → s .failed ≡ false
 
--- the lists of a block
-pub record Lent (requests answers orders : List ℕ) : Type 0 where
+-- between two turns
+pub record Holds (s : State) (t : Tables) (input out : List ℕ) : Type 0 where
+  pub ready : Ready (s .head) t
+  pub waits : Waits s input out
+
+-- the lists of a block, and the output buffer: any answer has room in it
+pub record Lent (requests answers orders out : List ℕ) : Type 0 where
   pub asked : 384 ≤ length requests
   pub told : 384 ≤ length answers
   pub rows : 18432 ≤ length orders
+  pub texts : longest ≤ length out
 
 -- the state after a block's answers
 pub record Printing (s : State) (h : Head) (u : Unread) (p : Printed) : Type 0 where
@@ -97,6 +96,8 @@ pub record Turned (d e : Desk) : Type 0 where
   pub book≡ : e .book ≡ leaves (take lines (linesIn (d .input))) (d .book)
   pub text : gone ++ e .held ≡ d .held ++ answers (take lines (linesIn (d .input))) (d .book)
   pub rest : Follows (d .ended) (drop (span (take lines (linesIn (d .input)))) (d .input)) came (e .ended) (e .input)
+  -- where a whole line is there, at least one is taken
+  pub takes : lines ≡ 0 → linesIn (d .input) ≡ []
 
 -- all input is answered, and all answers are written out
 pub record Finished (d : Desk) : Type 0 where

@@ -4,6 +4,7 @@ use crate::input::line_end;
 use lines::request::Asked;
 use lines::request::Line;
 use lines::request::read_line;
+use policy::serve::REQUEST_WIDTH;
 use policy::serve::serve;
 use rules::Head;
 use rules::Served;
@@ -68,7 +69,7 @@ fn put_request(requests: &mut [u64], row: usize, q: Asked)
     requires { ⌜ row * 3 + 3 ≤ length (now requests) ⌝ }
     ensures { λ _. ⌜ now (requests .exit) ≡ stored (row * 3) (numbersOf q) (now (requests .entry)) ⌝ }
 {
-    let at = row * 3;
+    let at = row * REQUEST_WIDTH;
     requests[at] = q.kind;
     requests[at + 1] = q.a;
     requests[at + 2] = q.b;

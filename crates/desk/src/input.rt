@@ -11,7 +11,7 @@ ghost use lib.ListN.{length};
 ghost use Rattle.rows.specs.Number.{stored};
 ghost use Rattle.rules.specs.Lists.{first};
 ghost use Rattle.lines.specs.Program.{newline, linesIn};
-ghost use Rattle.desk.specs.Input.{between, Within, pending, lacksLine, Unless, Got, Opened, Kept, Keeps, Ends, Moded, modeTaken};
+ghost use Rattle.desk.specs.Input.{between, Within, pending, lacksLine, Unless, Got, FirstRead, Kept, Keeps, Ends, Moded, modeTaken};
 
 // The buffer's bytes: a line too long to be a request and one read more.
 pub const INPUT: usize = 16384;
@@ -171,7 +171,7 @@ fn lacks_line(input: &[u8], u: Unread) -> bool
 pub fn read_first(input: &mut [u8]) -> Unread
     requires { ⌜ 512 < length (now input) ⌝ }
     ensures { λ r. ⌜ Within r (now (input .exit)) ⌝ }
-    ensures { λ r. ⌜ Unless (r .failed) (Opened r (now (input .exit))) ⌝ }
+    ensures { λ r. ⌜ Unless (r .failed) (FirstRead r (now (input .exit))) ⌝ }
 {
     let mut u = Unread {
         from: 0,

@@ -16,6 +16,7 @@ use output::Printed;
 use output::print_block;
 use output::refuse_start;
 use output::write_out;
+use policy::serve::REQUEST_WIDTH;
 use rules::Head;
 use rules::InnerTokens;
 use rules::InnerVertices;
@@ -36,6 +37,7 @@ ghost use Rattle.plan.specs.Judge.{Ready};
 ghost use Rattle.lines.specs.Program.{linesIn};
 ghost use Rattle.desk.specs.Input.{pending, Unless};
 ghost use Rattle.desk.specs.Block.{Enough, Answers};
+ghost use Rattle.desk.specs.Output.{longest};
 ghost use Rattle.desk.specs.Turn.{Starts, Holds, Waits, Lent, Printing, desk, Goes, Runs, Awaits};
 
 // The head of the empty book.
@@ -141,6 +143,7 @@ fn answer_block(
     requires { ⌜ Ready (s .head) (tables (now iv) (now it) (now ov) (now ot) (now rs)) ⌝ }
     requires { ⌜ Enough (now requests) (now answers) (now orders) ⌝ }
     requires { ⌜ s .filled ≤ length (now out) ⌝ }
+    requires { ⌜ longest ≤ length (now out) ⌝ }
     ensures { λ r. ⌜ Ready (r .head) (tables (now (iv .exit)) (now (it .exit)) (now (ov .exit)) (now (ot .exit)) (now (rs .exit))) ⌝ }
     ensures { λ r. ⌜ r .unread ≡ s .unread ⌝ }
     ensures { λ r. ⌜ r .filled ≤ length (now (out .exit)) ⌝ }
@@ -173,7 +176,7 @@ fn turn(
     out: &mut [u8],
 ) -> State
     requires { ⌜ Holds s (tables (now iv) (now it) (now ov) (now ot) (now rs)) (now input) (now out) ⌝ }
-    requires { ⌜ Lent (now requests) (now answers) (now orders) ⌝ }
+    requires { ⌜ Lent (now requests) (now answers) (now orders) (now out) ⌝ }
     ensures { λ r. ⌜ Holds r (tables (now (iv .exit)) (now (it .exit)) (now (ov .exit)) (now (ot .exit)) (now (rs .exit))) (now (input .exit)) (now (out .exit)) ⌝ }
     ensures { λ r. ⌜ Unless (r .failed) (Goes (desk s (tables (now (iv .entry)) (now (it .entry)) (now (ov .entry)) (now (ot .entry)) (now (rs .entry))) (now (input .entry)) (now (out .entry))) (desk r (tables (now (iv .exit)) (now (it .exit)) (now (ov .exit)) (now (ot .exit)) (now (rs .exit))) (now (input .exit)) (now (out .exit))) (r .going)) ⌝ }
 {
@@ -187,7 +190,7 @@ fn turn(
         going: true,
         failed: false,
     };
-    let n = b.rows * 3;
+    let n = b.rows * REQUEST_WIDTH;
     if n == 0 {
         return wait(s, input, out);
     }

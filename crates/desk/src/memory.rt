@@ -3,8 +3,11 @@ use crate::block::BLOCK;
 use crate::block::ORDERS;
 use crate::input::INPUT;
 use crate::output::OUTPUT;
+use policy::serve::ANSWER_WIDTH;
+use policy::serve::REQUEST_WIDTH;
 use rules::InnerTokens;
 use rules::InnerVertices;
+use rules::Order;
 use rules::OuterTokens;
 use rules::OuterVertices;
 use rules::Resources;
@@ -41,22 +44,22 @@ pub fn resources() -> [u8; Resources::LIMIT as usize * Resources::WIDTH]
     [0; Resources::LIMIT as usize * Resources::WIDTH]
 }
 
-pub fn request_rows() -> [u64; BLOCK * 3]
+pub fn request_rows() -> [u64; BLOCK * REQUEST_WIDTH]
     ensures { λ r. ⌜ 384 ≡ length r ⌝ }
 {
-    [0; BLOCK * 3]
+    [0; BLOCK * REQUEST_WIDTH]
 }
 
-pub fn answer_rows() -> [u16; BLOCK * 3]
+pub fn answer_rows() -> [u16; BLOCK * ANSWER_WIDTH]
     ensures { λ r. ⌜ 384 ≡ length r ⌝ }
 {
-    [0; BLOCK * 3]
+    [0; BLOCK * ANSWER_WIDTH]
 }
 
-pub fn order_rows() -> [u16; ORDERS * 3]
+pub fn order_rows() -> [u16; ORDERS * Order::WIDTH]
     ensures { λ r. ⌜ 18432 ≡ length r ⌝ }
 {
-    [0; ORDERS * 3]
+    [0; ORDERS * Order::WIDTH]
 }
 
 pub fn input_bytes() -> [u8; INPUT]

@@ -4,11 +4,15 @@ use libc::STDERR_FILENO;
 use libc::STDOUT_FILENO;
 use lines::answer::Put;
 use lines::answer::put_answer;
+use policy::serve::ANSWER_WIDTH;
+use rules::Order;
+ghost use mathlib.Core.Bool.{true};
 ghost use mathlib.Core.Path.{_≡_};
 ghost use mathlib.Core.List.{_∷_};
 ghost use Prim.Native.Nat.{_*_, _≤_};
 ghost use lib.ListN.{length, take};
-ghost use Rattle.desk.specs.Output.{Filled, counts, told, Prints, texts, Gathers};
+ghost use Rattle.lines.specs.Answer.{roomFor};
+ghost use Rattle.desk.specs.Output.{Filled, counts, neverMore, longest, told, Prints, texts, Gathers};
 
 // The buffer's bytes: more than the longest answer has.
 pub const OUTPUT: usize = 16384;
@@ -36,9 +40,10 @@ pub fn refuse_start() {
     write_out(b"no 14\n");
 }
 
-// One answer behind those gathered, or at the front once those are written out.
+// One answer behind those gathered, or at the front once those are written out. There it has room, so that it fails only where they can't be written.
 fn print_answer(number: u16, view: u16, rows: &[u16], out: &mut [u8], filled: usize) -> Printed
     requires { ⌜ filled ≤ length (now out) ⌝ }
+    requires { ⌜ roomFor (now rows) 0 (now out) ≡ true ⌝ }
     ensures { λ r. ⌜ Filled r (now (out .exit)) ⌝ }
     ensures { λ r. ⌜ Prints number view (now (rows .entry)) (now (out .entry)) filled r (now (out .exit)) ⌝ }
 {
@@ -48,10 +53,10 @@ fn print_answer(number: u16, view: u16, rows: &[u16], out: &mut [u8], filled: us
     if !write_out(&out[..filled]) {
         return Printed::Failed;
     }
-    if let Put::To(end) = put_answer(number, view, rows, out, 0) {
-        return Printed::To(end);
-    }
-    Printed::Failed
+    let Put::To(end) = put_answer(number, view, rows, out, 0) else {
+        return Printed::To(0);
+    };
+    Printed::To(end)
 }
 
 // The number that a row's line is answered with.
@@ -81,23 +86,25 @@ pub fn print_block(
     requires { ⌜ length (now answers) ≤ length (now requests) ⌝ }
     requires { ⌜ counts (now answers) * 3 ≤ length (now orders) ⌝ }
     requires { ⌜ filled ≤ length (now out) ⌝ }
+    requires { ⌜ neverMore (now answers) ≡ true ⌝ }
+    requires { ⌜ longest ≤ length (now out) ⌝ }
     ensures { λ r. ⌜ Filled r (now (out .exit)) ⌝ }
     ensures { λ r. ⌜ Gathers (take filled (now (out .entry)) ∷ texts (now (requests .entry)) (now (answers .entry)) (now (orders .entry))) r (now (out .exit)) ⌝ }
 {
     let mut end = filled;
     let mut used: usize = 0;
     let mut at: usize = 0;
-    while answers.len() - at >= 3 {
+    while answers.len() - at >= ANSWER_WIDTH {
         let number = number_told(requests[at], answers[at]);
         let view = answers[at + 1];
-        let next = used + wide(answers[at + 2]) * 3;
+        let next = used + wide(answers[at + 2]) * Order::WIDTH;
         let p = print_answer(number, view, &orders[used..next], out, end);
         let Printed::To(e) = p else {
             return Printed::Failed;
         };
         end = e;
         used = next;
-        at += 3;
+        at += ANSWER_WIDTH;
     }
     Printed::To(end)
 }

@@ -1,4 +1,5 @@
 // The text of an answer, put into a lent buffer from a place on.
+use rules::Order;
 ghost use mathlib.Core.Path.{_≡_};
 ghost use Prim.Native.Nat.{_+_, _*_, _/_, _≤_};
 ghost use lib.ListN.{length};
@@ -65,9 +66,9 @@ fn put_rows(rows: &[u16], out: &mut [u8], at: usize) -> usize
 {
     let mut end = at;
     let mut k: usize = 0;
-    while rows.len() - k >= 3 {
+    while rows.len() - k >= Order::WIDTH {
         end = put_row(rows[k], rows[k + 1], rows[k + 2], out, end);
-        k += 3;
+        k += Order::WIDTH;
     }
     end
 }
@@ -79,7 +80,7 @@ fn put_ok(rows: &[u16], out: &mut [u8], at: usize) -> usize
     out[at] = b'o';
     out[at + 1] = b'k';
     out[at + 2] = b' ';
-    let end = put_numeral((rows.len() / 3) as u64, b'\n', out, at + 3);
+    let end = put_numeral((rows.len() / Order::WIDTH) as u64, b'\n', out, at + 3);
     put_rows(rows, out, end)
 }
 
@@ -108,7 +109,7 @@ pub fn put_answer(number: u16, view: u16, rows: &[u16], out: &mut [u8], at: usiz
     if room < 24 {
         return Put::Full;
     }
-    if (room - 24) / 18 < rows.len() / 3 {
+    if (room - 24) / 18 < rows.len() / Order::WIDTH {
         return Put::Full;
     }
     if number == 0 {

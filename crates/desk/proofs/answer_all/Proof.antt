@@ -56,7 +56,7 @@ loop-holds c =
       c .before .before .answer-rows .ensures,
       c .before .order-rows .ensures,
       c .output-bytes .ensures,
-      record { ready = s .ready; within = s .within; last = s .last; long = s .long; gathered = omega (arith, s .none); works = λ h. s .fine },
+      record { ready = s .ready; waits = record { within = s .within; last = s .last; long = s .long; gathered = omega (arith, s .none); works = λ h. s .fine } },
       ran-none (a .s) (tables (a .iv .now) (a .it .now) (a .ov .now) (a .ot .now) (a .rs .now)) (a .input .now) (c .output-bytes .result) (s .none) (s .going),
     )
 
@@ -74,7 +74,7 @@ slice-aggregate-turn-4 c = c .before .before .before .before .before .before .be
 
 turn-requires : tie.Need-turn-requires Inv-loop μ-loop
 turn-requires c κs =
-    let i = c .before .before .before .before .before .before .before .before .before .before .before .before .loop .inv in (i .10, record { asked = omega (arith, i .6); told = omega (arith, i .7); rows = omega (arith, i .8) })
+    let i = c .before .before .before .before .before .before .before .before .before .before .before .before .loop .inv in (i .10, record { asked = omega (arith, i .6); told = omega (arith, i .7); rows = omega (arith, i .8); texts = omega (arith, i .9) })
 
 sub-turns : tie.Need-sub-turns Inv-loop μ-loop
 sub-turns c = omega (arith, c .before .before .before .before .before .before .before .before .before .before .before .before .before .before .before .before .before .before .before .before .before .before .before .before .before .before .before .before .loop-test .taken)
@@ -100,7 +100,7 @@ loop-again c =
       i .8 ∙ sym (k .1 .1 .1 .1 .1 .1 .1 .1 .0),
       i .9 ∙ sym (k .1 .1 .1 .1 .1 .1 .1 .1 .1 .1 .0),
       c .before .before .before .before .before .before .before .before .before .before .before .before .before .before .before .before .turn .ensures .0,
-      ran-more (desk (a .s) (tables (a .iv .now) (a .it .now) (a .ov .now) (a .ot .now) (a .rs .now)) (a .input .now) []) (l .state) (desk (l .state) (tables (l .iv) (l .it) (l .ov) (l .ot) (l .rs)) (l .input) (l .out)) (desk (t .result) (tables (t .last .1 .0) (t .last .1 .1 .0) (t .last .1 .1 .1 .0) (t .last .1 .1 .1 .1 .0) (t .last .1 .1 .1 .1 .1 .0)) (t .last .1 .1 .1 .1 .1 .1 .1 .1 .1 .0) (t .last .1 .1 .1 .1 .1 .1 .1 .1 .1 .1 .0)) (t .result .failed) (t .result .going) (c .before .before .before .before .before .before .before .before .before .before .before .before .before .before .before .before .before .before .before .before .before .before .before .before .before .before .before .if1 .taken) (i .10 .works) (i .11) (t .ensures .1),
+      ran-more (desk (a .s) (tables (a .iv .now) (a .it .now) (a .ov .now) (a .ot .now) (a .rs .now)) (a .input .now) []) (l .state) (desk (l .state) (tables (l .iv) (l .it) (l .ov) (l .ot) (l .rs)) (l .input) (l .out)) (desk (t .result) (tables (t .last .1 .0) (t .last .1 .1 .0) (t .last .1 .1 .1 .0) (t .last .1 .1 .1 .1 .0) (t .last .1 .1 .1 .1 .1 .0)) (t .last .1 .1 .1 .1 .1 .1 .1 .1 .1 .0) (t .last .1 .1 .1 .1 .1 .1 .1 .1 .1 .1 .0)) (t .result .failed) (t .result .going) (c .before .before .before .before .before .before .before .before .before .before .before .before .before .before .before .before .before .before .before .before .before .before .before .before .before .before .before .if1 .taken) (i .10 .waits .works) (i .11) (t .ensures .1),
     )
 
 same-length : tie.Need-same-length Inv-loop μ-loop

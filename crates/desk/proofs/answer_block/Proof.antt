@@ -55,7 +55,7 @@ print-block-requires : tie.Need-print-block-requires
 print-block-requires c κs =
     let serve = c .before .before .before .before .before .before .before .before .before .before .before .before .before .before .before .before .before .before .before .before .serve-block in
     let s = c .before .before .before .before .before .before .before .before .before .before .before .before .before .before .before .before .before .before .before .before .before .before .before .before .before .before .before .before .before .before .before .before .before .before .before .before .before .before .before in
-    (omega (arith, length-take-le (length (s .args .requests .now)) (serve .last .1 .1 .1 .1 .1 .1 .1 .0) (omega (arith, serve .kept .1 .1 .1 .1 .1 .1 .1 .0, s .pre .1 .0 .answered))), (serve .ensures .0 .within, s .pre .1 .1))
+    (omega (arith, length-take-le (length (s .args .requests .now)) (serve .last .1 .1 .1 .1 .1 .1 .1 .0) (omega (arith, serve .kept .1 .1 .1 .1 .1 .1 .1 .0, s .pre .1 .0 .answered))), (serve .ensures .0 .within, (s .pre .1 .1 .0, (serve .ensures .0 .few, s .pre .1 .1 .1))))
 
 printed-requires : tie.Need-printed-requires
 printed-requires c κs = search needs

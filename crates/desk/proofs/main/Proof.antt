@@ -80,18 +80,18 @@ answer-all-requires : tie.Need-answer-all-requires
 answer-all-requires c κs =
     let first = c .before .before .before .before .before .before .before .before .before .before .before .before .before .before .before .before .before .before .before .before .read-first in
     let taken = c .before .before .before .before .before .before .before .before .before .before .before .before .before .before .before .before .take-mode in
-    let opens = unless-not (c .before .before .before .before .before .before .before .before .before .before .before .before .before .before .before .before .before .before .if1 .left) (first .ensures .1) .opens in
+    let so-far = unless-not (c .before .before .before .before .before .before .before .before .before .before .before .before .before .before .before .before .before .before .if1 .left) (first .ensures .1) .soFar in
     let names = c .before .before .before .before .before .before .before .before .before .before .before .before .before .first .given .1 in
     let empty = c .before .before .before .before .before .before .empty-head in
     record {
       ready = fresh-ready _ _ _ _ _ (c .before .before .before .before .before .before .before .before .before .before .before .inner-vertices .ensures) (c .before .before .before .before .before .before .before .before .before .before .inner-tokens .ensures) (c .before .before .before .before .before .before .before .before .before .outer-vertices .ensures) (c .before .before .before .before .before .before .before .before .outer-tokens .ensures) (c .before .before .before .before .before .before .before .resources .ensures) _ (mode-named (c .before .before .before .before .before .before .before .before .before .before .before .before .before .first .given .1) (taken .ensures .1 .0)) (c .before .before .before .before .before .before .empty-head .ensures);
       within = taken .ensures .0;
-      last = mode-whole _ _ opens _ _ (taken .ensures .1 .1) names;
+      last = mode-whole _ _ so-far _ _ (taken .ensures .1 .1) names;
       long = omega (arith, first .kept .0, c .before .before .before .before .before .before .before .before .before .before .before .before .before .before .before .before .before .before .before .before .before .before .input-bytes .ensures);
       none = refl;
       going = refl;
       fine = refl;
-      begun = record { came = opens .came; begins = mode-begins _ _ opens _ _ (taken .ensures .1 .1) names (record { head = empty .result; unread = taken .result .unread; filled = 0; going = true; failed = false }) _ [] (empty .ensures) refl refl };
+      begun = record { came = so-far .came; begins = mode-begins _ _ so-far _ _ (taken .ensures .1 .1) names (record { head = empty .result; unread = taken .result .unread; filled = 0; going = true; failed = false }) _ [] (empty .ensures) refl refl };
     }
 
 returns-3 : tie.Need-returns-3

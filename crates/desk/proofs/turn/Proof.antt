@@ -22,7 +22,7 @@ wait-requires c κs =
     let s = c .before .before .before .before .before .before .before .before .before .before .before .before .before .before .before .before .before .before .before .before .before in
     let read = c .before .before .before .before .before .before .before .before .read-block in
     let reads′ = read .ensures .1 .1 .1 in (
-      record { within = read .ensures .0; last = block-whole _ _ _ _ reads′ (s .pre .0 .last); long = s .pre .0 .long; gathered = s .pre .0 .gathered; works = λ h. refl },
+      record { within = read .ensures .0; last = block-whole _ _ _ _ reads′ (s .pre .0 .waits .last); long = s .pre .0 .waits .long; gathered = s .pre .0 .waits .gathered; works = λ h. refl },
       block-none _ _ _ _ reads′ (omega (arith, c .before .before .if1 .taken)),
     )
 
@@ -42,7 +42,7 @@ returns c =
     let read = c .before .before .before .before .before .before .before .before .before .before .before .before .before .read-block in
     let wait = c .before .before .before .before .wait in (
       holds-waits (s .pre .0 .ready) (wait .ensures .1 .0) (wait .ensures .0),
-      waits-goes (a .s) (tables (a .iv .now) (a .it .now) (a .ov .now) (a .ot .now) (a .rs .now)) (a .input .now) (a .out .now) (s .pre .0 .last) (read .result) (read .last .1 .1 .0) (read .ensures .1 .1 .1) (wait .result) (tables (a .iv .now) (a .it .now) (a .ov .now) (a .ot .now) (a .rs .now)) (wait .last .1 .0) (wait .last .1 .1 .0) (omega (arith, c .before .before .before .before .before .before .before .if1 .taken)) (record { head = a .s .head; unread = read .result .unread; filled = a .s .filled; going = true; failed = false }) refl (wait .ensures .1 .0) refl (wait .ensures .1 .1),
+      waits-goes (a .s) (tables (a .iv .now) (a .it .now) (a .ov .now) (a .ot .now) (a .rs .now)) (a .input .now) (a .out .now) (s .pre .0 .waits .last) (read .result) (read .last .1 .1 .0) (read .ensures .1 .1 .1) (wait .result) (tables (a .iv .now) (a .it .now) (a .ov .now) (a .ot .now) (a .rs .now)) (wait .last .1 .0) (wait .last .1 .1 .0) (omega (arith, c .before .before .before .before .before .before .before .if1 .taken)) (record { head = a .s .head; unread = read .result .unread; filled = a .s .filled; going = true; failed = false }) refl (wait .ensures .1 .0) refl (wait .ensures .1 .1),
     )
 
 slice-reshare-prefix-answer-block : tie.Need-slice-reshare-prefix-answer-block
@@ -58,7 +58,7 @@ answer-block-requires c κs =
       s .pre .0 .ready,
       (
         enough (read .result .rows) (read .last .1 .1 .0) (read .ensures .1 .0) (omega (arith, read .kept .1 .1 .0, s .pre .1 .asked)) (s .pre .1 .told) (s .pre .1 .rows) (read .ensures .1 .1 .0),
-        s .pre .0 .gathered,
+        (s .pre .0 .waits .gathered, s .pre .1 .texts),
       ),
     )
 
@@ -100,13 +100,15 @@ returns-2 c =
     let done = c .before .before .before .before .before .before .before .before .before .before .before .before .before .before .before .before .answer-block in (
       record {
         ready = done .ensures .0;
-        within = within-by (done .ensures .1 .0) (read .ensures .0);
-        last = last-by (a .input .now) (done .ensures .1 .0) (block-whole _ _ _ _ (read .ensures .1 .1 .1) (s .pre .0 .last));
-        long = s .pre .0 .long;
-        gathered = done .ensures .1 .1 .0;
-        works = λ h. not-true _ (sym (done .ensures .1 .1 .1 .0) ∙ h);
+        waits = record {
+          within = within-by (done .ensures .1 .0) (read .ensures .0);
+          last = last-by (a .input .now) (done .ensures .1 .0) (block-whole _ _ _ _ (read .ensures .1 .1 .1) (s .pre .0 .waits .last));
+          long = s .pre .0 .waits .long;
+          gathered = done .ensures .1 .1 .0;
+          works = λ h. not-true _ (sym (done .ensures .1 .1 .1 .0) ∙ h);
+        };
       },
-      answers-goes (a .s) (tables (a .iv .now) (a .it .now) (a .ov .now) (a .ot .now) (a .rs .now)) (a .input .now) (a .out .now) (s .pre .0 .last) (read .result) (read .last .1 .1 .0) (read .ensures .1 .1 .1) (done .result) (tables (done .last .1 .0) (done .last .1 .1 .0) (done .last .1 .1 .1 .0) (done .last .1 .1 .1 .1 .0) (done .last .1 .1 .1 .1 .1 .0)) (a .input .now) (done .last .1 .1 .1 .1 .1 .1 .1 .1 .1 .0) (done .ensures .1 .0) refl (done .ensures .1 .1 .1 .0) (done .ensures .1 .1 .1 .1),
+      answers-goes (a .s) (tables (a .iv .now) (a .it .now) (a .ov .now) (a .ot .now) (a .rs .now)) (a .input .now) (a .out .now) (s .pre .0 .waits .last) (read .result) (read .last .1 .1 .0) (read .ensures .1 .1 .1) (done .result) (tables (done .last .1 .0) (done .last .1 .1 .0) (done .last .1 .1 .1 .0) (done .last .1 .1 .1 .1 .0) (done .last .1 .1 .1 .1 .1 .0)) (a .input .now) (done .last .1 .1 .1 .1 .1 .1 .1 .1 .1 .0) (done .ensures .1 .0) refl (done .ensures .1 .1 .1 .0) (done .ensures .1 .1 .1 .1),
     )
 
 pub turn-spec : {M : Type 1} → statement M

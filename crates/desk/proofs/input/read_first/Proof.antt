@@ -4,8 +4,8 @@ use mathlib.Core.Path.{_≡_, refl, sym, _∙_}
 use mathlib.Core.Bool.{true, false, true≢false}
 use mathlib.Core.Logic.{⊎-elim}
 use lib.ListN.{length}
-use Rattle.desk.specs.Input.{Within, lacksLine, Unless, Opens}
-use Rattle.desk.proofs.PendingLaws.{lacks-none, opens-none, opens-again, opened, opened-failed}
+use Rattle.desk.specs.Input.{Within, lacksLine, Unless, ReadSoFar}
+use Rattle.desk.proofs.PendingLaws.{lacks-none, so-far-none, so-far-again, first-read, first-failed}
 use Rattle.desk.proofs.input.read_first.Statement.{statement}
 use Rattle.desk.proofs.input.read_first.Tie as tie
 
@@ -14,13 +14,13 @@ Inv-loop input₀ u₀ turns₀ input u turns =
     Within u input
     × (length input ≡ length input₀)
     × (u .failed ≡ true → u .ended ≡ true)
-    × Unless (u .failed) (Opens u input)
+    × Unless (u .failed) (ReadSoFar u input)
 
 abbrev μ-loop : tie.MeasureT-loop
 μ-loop input₀ u₀ turns₀ input u turns = turns
 
 loop-holds : tie.Need-loop-holds Inv-loop μ-loop
-loop-holds c = (record { ordered = omega arith; inside = omega arith }, refl, λ h. absurd (true≢false (sym h)), opens-none _)
+loop-holds c = (record { ordered = omega arith; inside = omega arith }, refl, λ h. absurd (true≢false (sym h)), so-far-none _)
 
 lacks-line-requires : tie.Need-lacks-line-requires Inv-loop μ-loop
 lacks-line-requires c κs = c .before .before .loop .inv .0
@@ -42,7 +42,7 @@ loop-again c =
     let i = c .before .before .before .before .before .before .before .before .loop in
     let more = c .before .before .read-more in
     let lacks = sym (c .before .before .before .before .before .lacks-line .ensures) ∙ c .before .before .before .before .if1 .taken in
-    (more .ensures .within, omega arith, more .ensures .over, opens-again (i .u) (i .input) (more .result) (more .last .0) (i .inv .2) (i .inv .3) lacks (more .ensures))
+    (more .ensures .within, omega arith, more .ensures .over, so-far-again (i .u) (i .input) (more .result) (more .last .0) (i .inv .2) (i .inv .3) lacks (more .ensures))
 
 fail-requires : tie.Need-fail-requires Inv-loop μ-loop
 fail-requires c κs = tt
@@ -51,7 +51,7 @@ same-length : tie.Need-same-length Inv-loop μ-loop
 same-length c = omega arith
 
 returns : tie.Need-returns Inv-loop μ-loop
-returns c = opened-failed _ (c .fail .ensures)
+returns c = first-failed _ (c .fail .ensures)
 
 same-length-2 : tie.Need-same-length-2 Inv-loop μ-loop
 same-length-2 c = omega arith
@@ -60,7 +60,7 @@ returns-2 : tie.Need-returns-2 Inv-loop μ-loop
 returns-2 c =
     let i = c .before .before .loop in
     let found : lacksLine (i .u) (i .input) ≡ false = ⊎-elim (λ w. sym (w .2 .ensures) ∙ w .3 .left) (λ w. absurd (omega arith)) (c .before .loop-test .came) in
-    (i .inv .0, opened (i .u) (i .input) (i .inv .3) found)
+    (i .inv .0, first-read (i .u) (i .input) (i .inv .3) found)
 
 pub read-first-spec : {M : Type 1} → statement M
 read-first-spec =

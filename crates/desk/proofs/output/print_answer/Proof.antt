@@ -4,7 +4,7 @@ use mathlib.Core.Bool.{true, false}
 use native.Mathlib.Omega.{arith}
 use lib.Seq.{length-take-le}
 use Rattle.desk.proofs.Laws.{put-within}
-use Rattle.desk.proofs.PrintLaws.{print-behind, print-stuck, print-front, print-long}
+use Rattle.desk.proofs.PrintLaws.{print-behind, print-stuck, print-front, print-never}
 use borrow.Author.Needs.{needs}
 use Rattle.desk.proofs.output.print_answer.Statement.{statement}
 use Rattle.desk.proofs.output.print_answer.Tie as tie
@@ -22,7 +22,7 @@ returns : tie.Need-returns
 returns c =
     let s = c .before .before .before .before .before .before .before .before .before in
     let call = c .before .before .before .before .before .put-answer in (
-      put-within (s .args .number) (s .args .view) (s .args .rows .now) (s .args .out .now) (s .args .filled) (s .pre)
+      put-within (s .args .number) (s .args .view) (s .args .rows .now) (s .args .out .now) (s .args .filled) (s .pre .0)
           (c .before .end .given .1) (call .ensures),
       record { written = true; leaves = print-behind (s .args .number) (s .args .view) (s .args .rows .now) (s .args .out .now) (s .args .filled) (c .before .end .given .1) (call .ensures) },
     )
@@ -34,7 +34,7 @@ slice-reshare-prefix-write-out : tie.Need-slice-reshare-prefix-write-out
 slice-reshare-prefix-write-out c = search needs
 
 slice-aggregate-write-out : tie.Need-slice-aggregate-write-out
-slice-aggregate-write-out c = sym (length-take-le _ _ (omega (arith, c .before .before .before .before .before .put-answer .kept .1 .1 .1 .0, c .before .before .before .before .before .before .before .before .before .pre)))
+slice-aggregate-write-out c = sym (length-take-le _ _ (omega (arith, c .before .before .before .before .before .put-answer .kept .1 .1 .1 .0, c .before .before .before .before .before .before .before .before .before .pre .0)))
 
 write-out-requires : tie.Need-write-out-requires
 write-out-requires c κs = search needs
@@ -53,27 +53,27 @@ put-answer-requires-2 c κs = search needs
 enum-known-end-2 : tie.Need-enum-known-end-2
 enum-known-end-2 c = search needs
 
+enum-told-2 : tie.Need-enum-told-2
+enum-told-2 c = search needs
+
 same-length-3 : tie.Need-same-length-3
 same-length-3 c = search needs
 
 returns-3 : tie.Need-returns-3
 returns-3 c =
-    let s = c .before .before .before .before .before .before .before .before .before .before .before .before .before .before .before .before .before .before in
-    let call = c .before .before .before .before .before .put-answer2 in (
-      put-within _ _ _ _ 0 (omega arith) (c .before .end2 .given .1) (call .ensures),
-      record { written = true; leaves = print-front (s .args .number) (s .args .view) (s .args .rows .now) (s .args .out .now) (s .args .filled) (c .before .before .before .before .before .before .before .before .before .before .enum-told .given .1) (c .before .before .before .before .before .before .before .before .before .before .before .before .before .before .put-answer .ensures) (c .before .end2 .given .1) (call .ensures) },
-    )
-
-enum-told-2 : tie.Need-enum-told-2
-enum-told-2 c = search needs
+    let s = c .before .before .before .before .before .before .before .before .before .before .before .before .before .before .before .before .before in
+    absurd (print-never (s .args .number) (s .args .view) (s .args .rows .now) (s .args .out .now) (s .args .filled) (c .before .before .before .before .before .before .before .before .before .enum-told .given .1) (c .before .before .before .before .before .before .before .before .before .before .before .before .before .put-answer .ensures) (s .pre .1) (c .enum-told2 .given .1) (c .before .before .before .before .put-answer2 .ensures))
 
 same-length-4 : tie.Need-same-length-4
 same-length-4 c = search needs
 
 returns-4 : tie.Need-returns-4
 returns-4 c =
-    let s = c .before .before .before .before .before .before .before .before .before .before .before .before .before .before .before .before .before in
-    (omega arith, record { written = true; leaves = print-long (s .args .number) (s .args .view) (s .args .rows .now) (s .args .out .now) (s .args .filled) (c .before .before .before .before .before .before .before .before .before .enum-told .given .1) (c .before .before .before .before .before .before .before .before .before .before .before .before .before .put-answer .ensures) (c .enum-told2 .given .1) (c .before .before .before .before .put-answer2 .ensures) })
+    let s = c .before .before .before .before .before .before .before .before .before .before .before .before .before .before .before .before .before .before in
+    let call = c .before .before .before .before .before .put-answer2 in (
+      put-within _ _ _ _ 0 (omega arith) (c .before .end2 .given .1) (call .ensures),
+      record { written = true; leaves = print-front (s .args .number) (s .args .view) (s .args .rows .now) (s .args .out .now) (s .args .filled) (c .before .before .before .before .before .before .before .before .before .before .enum-told .given .1) (c .before .before .before .before .before .before .before .before .before .before .before .before .before .before .put-answer .ensures) (c .before .end2 .given .1) (call .ensures) },
+    )
 
 pub print-answer-spec : {M : Type 1} → statement M
 print-answer-spec =
@@ -91,8 +91,8 @@ print-answer-spec =
     returns-2
     put-answer-requires-2
     enum-known-end-2
+    enum-told-2
     same-length-3
     returns-3
-    enum-told-2
     same-length-4
     returns-4)

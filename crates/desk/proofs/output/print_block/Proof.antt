@@ -6,14 +6,15 @@ use native.Mathlib.Omega.{arith}
 use lib.ListN.{length, take, drop}
 use borrow.Author.Needs.{needs}
 use mathlib.Core.List.{List, _∷_}
-use Rattle.desk.specs.Output.{counts, filledTo, texts, Gathered}
+use mathlib.Core.Bool.{true}
+use Rattle.desk.specs.Output.{counts, neverMore, longest, filledTo, texts, Gathered}
 use Rattle.desk.proofs.Laws.{counts-next}
-use Rattle.desk.proofs.PrintLaws.{gathered-all, gathered-more, texts-next, texts-done}
+use Rattle.desk.proofs.PrintLaws.{gathered-all, gathered-more, texts-next, texts-done, few-next, few-rest, room-front}
 use Rattle.desk.proofs.output.print_block.Statement.{statement}
 use Rattle.desk.proofs.output.print_block.Tie as tie
 
 abbrev Inv-loop : tie.InvT-loop
-Inv-loop requests answers orders out₀ filled end₀ used₀ at₀ out end used at = (at ≤ length answers) × (used + counts (drop at answers) * 3 ≤ length orders) × (end ≤ length out) × (length out ≡ length out₀) × ((r : ℕ) (now : List ℕ) → Gathered (take end out ∷ texts (drop at requests) (drop at answers) (drop used orders)) r now → Gathered (take filled out₀ ∷ texts requests answers orders) r now)
+Inv-loop requests answers orders out₀ filled end₀ used₀ at₀ out end used at = (at ≤ length answers) × (used + counts (drop at answers) * 3 ≤ length orders) × (end ≤ length out) × (length out ≡ length out₀) × ((r : ℕ) (now : List ℕ) → Gathered (take end out ∷ texts (drop at requests) (drop at answers) (drop used orders)) r now → Gathered (take filled out₀ ∷ texts requests answers orders) r now) × (neverMore (drop at answers) ≡ true)
 
 abbrev μ-loop : tie.MeasureT-loop
 μ-loop requests answers orders out₀ filled end₀ used₀ at₀ out end used at = length answers - at
@@ -33,7 +34,7 @@ used-more c =
     omega (arith, counts-next (answers-of c) (l .at) (omega arith), c .wide .ensures, l .inv .1)
 
 loop-holds : tie.Need-loop-holds Inv-loop μ-loop
-loop-holds c = (omega arith, omega (arith, c .before .before .before .before .pre), omega arith, refl, λ r now p. p)
+loop-holds c = (omega arith, omega (arith, c .before .before .before .before .pre), omega arith, refl, λ r now p. p, c .before .before .before .before .pre .1 .1 .1 .0)
 
 sub-loop : tie.Need-sub-loop Inv-loop μ-loop
 sub-loop c = omega arith
@@ -93,7 +94,11 @@ part-print-answer-end : tie.Need-part-print-answer-end Inv-loop μ-loop
 part-print-answer-end c = omega (arith, used-more c)
 
 print-answer-requires : tie.Need-print-answer-requires Inv-loop μ-loop
-print-answer-requires c κs = c .before .before .before .before .before .before .before .before .before .loop .inv .2
+print-answer-requires c κs =
+    let l = c .before .before .before .before .before .before .before .before .before .loop in
+    let s = c .before .before .before .before .before .before .before .before .before .before .before .before .before .before in
+    let a = s .args .answers .now in
+    (l .inv .2, room-front (c .before .before .wide .result) (l .used) (s .args .orders .now) (l .out) (omega (arith, c .before .before .wide .ensures, few-next a (l .at) (omega arith) (l .inv .5))) (omega (arith, l .inv .3, s .pre .1 .1 .1 .1)))
 
 enum-known-p : tie.Need-enum-known-p Inv-loop μ-loop
 enum-known-p c = search needs
@@ -130,6 +135,7 @@ loop-again c =
       λ r now p.
           l .inv .4 r now
           (rw more (gathered-more _ _ _ (l .out) (l .end) (call .ensures .1 .written) (l .inv .2) (c .before .p .given .1) (call .ensures .1 .leaves) r now p)),
+      few-rest (s .args .answers .now) (l .at) (omega arith) (l .inv .5),
     )
 
 same-length-2 : tie.Need-same-length-2 Inv-loop μ-loop
