@@ -1,4 +1,4 @@
-//! The sample transcript, P1 to P12 and the numbers of "Both sides".
+//! The sample transcript (RULES 10.9), P1 to P12 and the numbers of RULES 11.2.
 
 mod common;
 

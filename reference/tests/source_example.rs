@@ -1,9 +1,9 @@
-//! Source 000, section 4.3: the access matrix of figure 2, then the four
-//! changes, in both modes.
+//! The published method's example (VLDB 2007, section 4.3): the access matrix
+//! of figure 2, then the four changes, in both modes.
 //!
 //! Users A to E are 0 to 4; resources r1 to r8 are 0 to 7. The lists of
 //! figure 2: r1, r2 {C}; r3, r4 {C,D}; r5, r6, r7 {A,B,C}; r8 {A,B,C,E}.
-//! The source numbers its groups in another order (b6 {A,B,C}, b7 {C,D});
+//! The paper numbers its groups in another order (b6 {A,B,C}, b7 {C,D});
 //! here numbers follow creation, so {C,D} is 5, {A,B,C} 6, {A,B,C,E} 7.
 
 mod common;

@@ -1,4 +1,4 @@
--- What the copies of a book's sections need.
+-- What the copies of a book's sections (RULES 9.3) need.
 -- Assumes nothing.
 use Prim.Native.Nat.{ℕ, _≤_, _<_}
 use mathlib.Core.Path.{_≡_}

@@ -181,7 +181,7 @@ pub fn is_book(bytes: &[u8]) -> bool
     )
 }
 
-// A section of a book, "the stretch of the lent book itself"; the refusal's number, or 0, goes to the cell.
+// A section of a book, "a part of the very bytes that were lent" (RULES 9.8); the refusal's number, or 0, goes to the cell.
 pub fn section<'a>(bytes: &'a [u8], k: usize, cell: &mut u16) -> &'a [u8]
     ensures { λ r. ⌜ part (now r) (now (cell .exit)) ≡ sectionCall (now (bytes .entry)) k ⌝ }
 {

@@ -1,4 +1,4 @@
--- "Its order list is long enough never to give 10": requests whose most order rows lie within the list are served without that refusal, and their
+-- RULES 10.7 "10 is never given": requests whose most order rows lie within the list are served without that refusal, and their
 -- answers count no more rows than the list has.
 -- Assumes nothing.
 use Prim.Native.Nat.{ℕ, zero, suc, _+_, _*_, _/_, _≤_, _<_}

@@ -16,7 +16,7 @@ ghost use Rattle.desk.specs.Input.{between, Within, pending, lacksLine, 
 // The buffer's bytes: a line too long to be a request and one read more.
 pub const INPUT: usize = 16384;
 
-// "Lines hold at most 512 bytes before the newline."
+// The most bytes of a line: RULES 10.4.
 pub const LONGEST: usize = 512;
 
 // The bytes from `from` to `to`. `cut`: the first of them belong to a line that is longer than a line may be, whose start was dropped.

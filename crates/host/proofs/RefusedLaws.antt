@@ -1,4 +1,4 @@
--- "A refusal changes nothing but a lent cell that takes its number", in C: a call whose result is not 0 leaves all that it was lent as it was, its cells too.
+-- RULES 7.3 in C (8.9): a call whose result is not 0 leaves all that it was lent as it was, its cells too.
 -- Assumes nothing.
 use Prim.Native.Nat.{ℕ, zero, suc}
 use mathlib.Core.Path.{_≡_, refl, sym, ap, _∙_}

@@ -1,5 +1,5 @@
--- The C interface's answers, from the calls' definitions: numbers only. "A refusal changes nothing but a lent cell that takes its number": here the
--- number is the result, and the cells, whose content at entry comes last among the arguments, stay as they were.
+-- The C interface's answers, from the calls' definitions: numbers only. RULES 8.9: the refusal's number is the result, and the cells, whose content at entry
+-- comes last among the arguments, stay as they were.
 -- Assumes nothing.
 use Prim.Native.Nat.{ℕ, zero, suc, _+_, _*_}
 use mathlib.Core.Bool.{cond}

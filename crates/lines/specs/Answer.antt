@@ -1,5 +1,4 @@
--- The text of an answer. Document 01: "It prints `ok N` and N rows (`kind a b`; for open `i row` or `o row`, the token's row number, inner first), or `no K`,
--- for 11 `no 11 view`". 10 is the newline, 32 the space, 48 the digit 0.
+-- The text of an answer. RULES 10.8. 10 is the newline, 32 the space, 48 the digit 0.
 -- Assumes nothing.
 use Prim.Native.Nat.{ℕ, zero, suc, _+_, _*_, _-_, _/_, _%_}
 use mathlib.Core.Bool.{Bool, cond, _||_}
@@ -29,7 +28,7 @@ numeral n end = digits (n / 10) ++ ((48 + n % 10) ∷ end ∷ [])
 unfoldable pub ofOpen : ℕ → Bool
 ofOpen k = eqb k 105 || eqb k 111
 
--- "`kind a b`; for open `i row` or `o row`"
+-- `KIND A B`; for open `i ROW` or `o ROW`
 unfoldable pub rowText : ℕ → ℕ → ℕ → List ℕ
 rowText k a b = cond (ofOpen k) (k ∷ 32 ∷ numeral a 10) (numeral k 32 ++ (numeral a 32 ++ numeral b 10))
 

@@ -1,4 +1,4 @@
--- Worked examples, run from the definitions: lines on both sides of each clause of "The request program", and the answers of document 01's sample.
+-- Worked examples, run from the definitions: lines on both sides of each clause of RULES 10.3 and 10.4, and the answers of its sample.
 -- A row: what the definitions give, and what it should be.
 -- Assumes nothing.
 use Prim.Native.Nat.{ℕ, _+_}

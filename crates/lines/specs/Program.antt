@@ -1,4 +1,4 @@
--- The request program as one definition: from the bytes of the whole input to the bytes of the whole output. Document 01, "The request program".
+-- The request program as one definition: from the bytes of the whole input to the bytes of the whole output. RULES 10.
 -- Assumes nothing.
 use Prim.Native.Nat.{ℕ, _+_}
 use mathlib.Core.Bool.{Bool, cond, not}
@@ -30,7 +30,7 @@ unfoldable pub linesIn : List ℕ → List (List ℕ)
 linesIn [] = []
 linesIn (c ∷ cs) = let ls = linesIn cs in cond (newline c) ([] ∷ ls) (longer c ls)
 
--- "the last may lack its newline": it gets one
+-- RULES 10.2 "the last line need not have one": it gets one
 unfoldable pub closed : List ℕ → List ℕ
 closed [] = []
 closed (c ∷ []) = cond (newline c) (c ∷ []) (c ∷ 10 ∷ [])
@@ -50,11 +50,11 @@ pub record Told : Type 0 where
 abbrev pub telling : List ℕ → Book → Told
 telling text b = record { text = text; book = b }
 
--- "`no K`, for 11 `no 11 view`": the book stays as it is
+-- "`no K`, for 11 `no 11 VIEW`": the book stays as it is
 unfoldable pub refused : Refusal → Book → Told
 refused r b = telling (answerText (number r) (viewTold r) []) b
 
--- "`ok N` and N rows": the orders
+-- "`ok N` on a line and N rows": the orders
 unfoldable pub changeTold : Option Refusal → Done → Book → Told
 changeTold (some r) d b = refused r b
 changeTold none d b = telling (answerText 0 0 (orderRows (d .orders))) (d .book)
@@ -64,7 +64,7 @@ unfoldable pub openTold : Option Refusal → ℕ → ℕ → Book → Told
 openTold (some k) u r b = refused k b
 openTold none u r b = telling (answerText 0 0 (chainRows b u r)) b
 
--- each request as its own call; "its order list is long enough never to give 10": as many rows are lent as the request gives
+-- RULES 10.7: each request as its own call, "with as many order rows lent as are needed"
 unfoldable pub answerTo : Asked → Book → Told
 answerTo (changes q) b =
     let d = work q b in
@@ -94,12 +94,12 @@ unfoldable pub leaves : List (List ℕ) → Book → Book
 leaves [] b = b
 leaves (l ∷ ls) b = leaves ls (lineTold (lineAsks l) b .book)
 
--- the first line "prints nothing; anything else prints `no 14` and ends"
+-- RULES 10.3: the mode, "and nothing is printed"; else "`no 14` is printed, and the program ends"
 unfoldable pub started : First → List (List ℕ) → List ℕ
 started (first-line.Of m) ls = answers ls (emptyBook (m .0))
 started first-line.Malformed ls = no14
 
--- "empty input prints `no 14`"
+-- so it is for "no input at all"
 unfoldable pub answered : List (List ℕ) → List ℕ
 answered [] = no14
 answered (l ∷ ls) = started (firstLine l) ls

@@ -1,4 +1,4 @@
--- The request program run from its definition: document 01's sample, and both sides of the clauses about lines. A row: what the program prints, and what
+-- The request program run from its definition: the sample of RULES 10.9, and both sides of the clauses about lines. A row: what the program prints, and what
 -- it should.
 -- Assumes nothing.
 use Prim.Native.Nat.{ℕ, _+_}

@@ -1,4 +1,4 @@
--- What the parts of the line reader answer.
+-- What the parts of the line reader answer. RULES 10.4, 14.3.
 -- Assumes nothing.
 use Prim.Native.Nat.{ℕ, _≤_}
 use mathlib.Core.Path.{_≡_}

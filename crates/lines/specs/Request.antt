@@ -1,5 +1,5 @@
--- What a line of the request program asks. Document 01: "`join`, `insert u u ..`, `grant r u`, `revoke r u`, `open u r`: single spaces, decimal, at most 5
--- digits, no leading zero, no user twice; `insert` alone has an empty list". A line is its bytes without the newline: 32 is the space, 48 to 57 are the digits.
+-- What a line of the request program asks: the grammar of RULES 10.4, and its first line, 10.3. A line is its bytes without the newline: 32 is the space, 48
+-- to 57 are the digits.
 -- Assumes nothing.
 use Prim.Native.Nat.{ℕ, zero, suc, _+_, _*_, _-_}
 use mathlib.Core.Bool.{Bool, true, false, cond, _&&_, _||_, not}
@@ -29,11 +29,11 @@ same (x ∷ xs) (y ∷ ys) = eqb x y && same xs ys
 unfoldable pub digit : ℕ → Bool
 digit c = leb 48 c && leb c 57
 
--- "at most 5 digits, no leading zero"
+-- one to five bytes; it "starts with 0 only if it is `0`"
 unfoldable pub shaped : List ℕ → Bool
 shaped p = leb 1 (length p) && (leb (length p) 5 && (eqb (length p) 1 || not (eqb (getD p 0 0) 48)))
 
--- "decimal"
+-- a NUMBER: "one to five of the digits 0 to 9"
 unfoldable pub isNumber : List ℕ → Bool
 isNumber p = shaped p && every digit p
 
@@ -54,7 +54,7 @@ unfoldable pub longer : ℕ → List (List ℕ) → List (List ℕ)
 longer c [] = []
 longer c (p ∷ ps) = (c ∷ p) ∷ ps
 
--- the pieces between "single spaces"; two spaces in a row, or one at an end, give an empty piece
+-- the pieces between spaces; two spaces in a row, or one at an end, give an empty piece
 unfoldable pub pieces : List ℕ → List (List ℕ)
 pieces [] = [] ∷ []
 pieces (c ∷ cs) = let ps = pieces cs in cond (eqb c 32) ([] ∷ ps) (longer c ps)
@@ -68,7 +68,7 @@ words = bytes "join" ∷ bytes "insert" ∷ bytes "grant" ∷ bytes "revoke" ∷
 unfoldable pub kindOf : List ℕ → ℕ
 kindOf w = first (same w) words
 
--- "no user twice"
+-- "no NUMBER stands twice in an insert"
 unfoldable pub twice : List ℕ → Bool
 twice [] = false
 twice (n ∷ ns) = some (eqb n) ns || twice ns
@@ -78,7 +78,7 @@ unfoldable pub users : List ℕ → ℕ
 users [] = 0
 users (n ∷ ns) = let s = users ns in cond (ltb n people) (union (single n) s) s
 
--- "a user number above 63": 1 if there is one
+-- a user number over 63: 1 if there is one
 unfoldable pub above : List ℕ → ℕ
 above ns = cond (some (leb people) ns) 1 0
 
@@ -111,11 +111,11 @@ unfoldable pub requestOf : List (List ℕ) → Line
 requestOf [] = line.Malformed
 requestOf (w ∷ ps) = asksFor (kindOf w) ps
 
--- "Lines hold at most 512 bytes before the newline"
+-- "it has at most 512 bytes"
 unfoldable pub lineAsks : List ℕ → Line
 lineAsks bs = cond (leb (length bs) 512) (requestOf (pieces bs)) line.Malformed
 
--- ---- "The first line of standard input is `delta` or `full`": mode 0 full, 1 delta
+-- ---- RULES 10.3 "the first line is `full` or `delta`": mode 0 full, 1 delta
 
 unfoldable pub modes : List (List ℕ)
 modes = bytes "full" ∷ bytes "delta" ∷ []

@@ -1,4 +1,4 @@
--- A text as its bytes. Document 01's lines have ASCII characters only, one byte each.
+-- A text as its bytes. The texts of RULES 10 have ASCII characters only, one byte each.
 -- Assumes nothing.
 use Prim.Native.Nat.{ℕ}
 use Prim.Native.Char.{code}

@@ -71,7 +71,7 @@ fn piece_end(line: &[u8], at: usize) -> usize
     i
 }
 
-// "At most 5 digits, no leading zero", if they are digits.
+// One to five bytes that start with 0 only if there is no other: a NUMBER of RULES 10.4, if they are digits.
 fn shaped(piece: &[u8]) -> bool
     ensures { λ r. ⌜ r ≡ shaped (now (piece .entry)) ⌝ }
 {
@@ -245,7 +245,7 @@ fn row_of(kind: u64, numbers: &[u64]) -> Line
     Line::Asks(Asked { kind, a, b })
 }
 
-// The request of a word and the line's rest after it, "read as its own stretch".
+// The request of a word and "the part of the line behind its first word" (RULES 14.3).
 fn request(kind: u64, rest: &[u8]) -> Line
     requires { ⌜ Rest (now rest) ⌝ }
     ensures { λ r. ⌜ r ≡ asksFor kind (behind (now (rest .entry))) ⌝ }

@@ -1,4 +1,4 @@
--- The call run on the empty delta book: a join with three records lent, with two, and with one ("order list one row short is 10").
+-- The call run on the empty delta book: a join with three records lent, with two, and with one (RULES 11.2: one row fewer is 10).
 -- Assumes nothing.
 use Prim.Native.Nat.{ℕ}
 use mathlib.Core.Path.{_≡_, refl}

@@ -1,4 +1,4 @@
--- A request whose orders go to a lent list of records: what it answers, and what it leaves in all it was lent.
+-- A request whose orders go to a lent list of records: what it answers, and what it leaves in all it was lent. RULES 14.9.
 -- Assumes nothing.
 use Prim.Native.Nat.{ℕ, _*_}
 use mathlib.Core.Bool.{cond}
@@ -18,7 +18,7 @@ use Rattle.rules.specs.declared.Changed.the-variants as changed
 
 -- ---- the call
 
--- "list rows .. past the answer, are never touched"
+-- RULES 8.5 "what a list or a buffer has behind the answer is left as it was"
 unfoldable pub over : List Order → List Order → List Order
 over os list = os ++ drop (length os) list
 

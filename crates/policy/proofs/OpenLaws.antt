@@ -202,7 +202,7 @@ module _ (h : Head) (iv it ov ot rs : List ℕ) where
         inner-is : layerOf i it iv ≡ b .inner
         inner-is = ap (λ (s : Shape). layerOf s it iv) ei ∙ inner-layer h iv it ov ot rs
 
-        -- "a user who is not in the inner vertex's set has the one kind 1 row"
+        -- RULES 5.10 b: a user who is not in the inner vertex's set has the one kind 1 row
         pub let-in : LetIn i (layerOf i it iv) u (x .inner)
         let-in = rw (inner-is, row′, ei) (λ lacks.
             omega (

@@ -1,4 +1,4 @@
--- What open is judged by, and the rows of each chain by its own layer.
+-- What open is judged by, and the rows of each chain by its own layer. RULES 5.10.
 -- Assumes nothing.
 use Prim.Native.Nat.{ℕ, _<_}
 use mathlib.Core.Path.{_≡_}
@@ -49,7 +49,7 @@ innerRows L u v = cond (has (setOf L v) u) (chain L u v) (direct L u v ∷ [])
 abbrev pub outerRows : Layer → ℕ → ℕ → List ℕ
 outerRows L u v = cond (not (eqb v book.none)) (chain L u v) []
 
--- "where there is no outer key, the outer layer counts as known"
+-- RULES 3.8 "the outer key counts as derived, by everybody"
 abbrev pub knownIn : Layer → ℕ → ℕ → Bool
 knownIn L u v = not (not (eqb v book.none)) || has (setOf L v) u
 

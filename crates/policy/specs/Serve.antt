@@ -1,4 +1,4 @@
--- Several requests in one call: what a row asks of the code, and what one request answers.
+-- Several requests in one call: what a row asks of the code, and what one request answers. RULES 8.8.
 -- Assumes nothing.
 use Prim.Native.Nat.{ℕ, _*_, _≤_}
 use mathlib.Core.Path.{_≡_}

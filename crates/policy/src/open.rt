@@ -56,7 +56,7 @@ fn view_by(inner: bool, outer: bool) -> View
     View::Locked
 }
 
-// Whether u knows the key of one of n outer vertices: "where there is no outer key, the outer layer counts as known".
+// Whether u derives the key of one of n outer vertices; where there is none, "the outer key counts as derived, by everybody" (RULES 3.8).
 fn outer_known(ov: &[u8], n: usize, v: OuterVertex, u: User) -> bool
     requires { ⌜ (n * bytes ≤ length (now ov)) × (u .0 < people) × OuterThere n (v .0) ⌝ }
     ensures { λ b. ⌜ b ≡ knownIn (setsOnly n (now (ov .entry))) (u .0) (v .0) ⌝ }
@@ -229,7 +229,7 @@ fn outer_rows(ov: &[u8], ot: &[u8], o: Shape, v: OuterVertex, u: User, list: &mu
     chain_rows(ot, ov, o, v.0, u, list);
 }
 
-// The rows of both chains: "inner chain first, first token first". The outer ones start at `at`.
+// The rows of both chains, "those of the inner chain first" (RULES 5.10). The outer ones start at `at`.
 pub fn put_chains(
     h: Head,
     iv: &[u8],

@@ -1,4 +1,4 @@
--- A set of users by value, as the number of Sets, and its sizes. Document 01's "64 bits". Assumes nothing.
+-- A set of users by value, as the number of Sets, and its sizes. RULES 2.6, "64 bits". Assumes nothing.
 use Prim.Native.Nat.{ℕ, _+_, _*_, _/_, _%_}
 use Rattle.sets.specs.declared.Users.{Users}
 

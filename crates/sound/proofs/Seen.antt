@@ -1,4 +1,4 @@
--- S3 and S6, "no two equal", as the code looks for them: a pass over the rows, with a mark for each row that was met.
+-- S3 and S6, no two equal, as the code looks for them: a pass over the rows, with a mark for each row that was met.
 -- Assumes nothing.
 use Prim.Native.Nat.{ℕ, _+_, _*_, _/_, _%_, _<_}
 use mathlib.Core.Path.{_≡_, sym, ap, ap₂, _∙_}

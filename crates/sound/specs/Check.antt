@@ -1,4 +1,4 @@
--- The check of tables: their room, the counts, and the answer.
+-- The check of tables: their room, the counts, and the answer. RULES 8.7.
 -- Assumes nothing.
 use Prim.Native.Nat.{_+_}
 use mathlib.Core.Bool.{Bool, true, false, _&&_}

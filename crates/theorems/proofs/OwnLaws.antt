@@ -77,7 +77,7 @@ module _ (n : ℕ) (L : Layer) (g : Layered n L) where
           let o : List·Memᴰ s (L .sets) = Memᴰ·cast q (g .own u (upTo-mem n k)) in
           mem-keep ofOne (L .sets) o (one-own n s (g .sets< s o) .1 (u, upTo-mem n k, q))
 
-  -- "A group vertex is one that is not a user's own": group vertices are vertices less users
+  -- RULES 2.2 "any other vertex is a group vertex": group vertices are vertices less users
   pub groups-count : length (groups L) + n ≡ length (L .sets)
   unfolding groups
   groups-count = omega (arith, length-keep-split ofOne (L .sets), own-count)
@@ -85,15 +85,15 @@ module _ (n : ℕ) (L : Layer) (g : Layered n L) where
 -- ---- a sound book
 
 module _ (b : Book) (h : sound b ≡ true) where
-  -- "448 outer group vertices"
+  -- RULES 2.1 "448 outer group vertices"
   pub outer-groups : length (groups (b .outer)) ≤ maxGroups
   outer-groups = omega (arith, groups-count (b .users) (b .outer) (sound-kept b h .outer), sound-counts b h .outer≤)
 
-  -- "Inner group vertices never exceed the resources"
+  -- RULES 2.3 "the inner group vertices are no more than the folders"
   pub inner-groups : length (groups (b .inner)) ≤ length (b .resources)
   inner-groups = omega (arith, groups-count (b .users) (b .inner) (sound-kept b h .inner), sound-counts b h .inner≤)
 
--- ---- 7 "the rules on unlimited tables would leave more outer group vertices .. than the limit"
+-- ---- 7 "done on tables without limits, the request would leave more than 448 outer group vertices"
 
 -- the test of 7, which counts all outer vertices, counts the groups that the request would leave
 pub seven-counts-groups : (q : Request) (b : Book) → sound b ≡ true → Allowed q b

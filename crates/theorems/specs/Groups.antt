@@ -1,4 +1,4 @@
--- Which vertices are groups'. How many there are in a sound book, and that 7 is judged by them, is proved in proofs/OwnLaws.
+-- Which vertices are groups' (RULES 2.2). How many there are in a sound book, and that 7 is judged by them, is proved in proofs/OwnLaws.
 -- Assumes nothing.
 use Prim.Native.Nat.{ℕ}
 use mathlib.Core.Bool.{Bool, not}
@@ -8,10 +8,10 @@ use Rattle.sets.specs.Sets.{size}
 use Rattle.rules.specs.Lists.{keep}
 use Rattle.rules.specs.Layer.{Layer}
 
--- "a user's own", as S2 and S5 test it: a vertex whose set has one user
+-- a user's own (RULES 2.2), as S2 and S5 test it: a vertex whose set has one user
 unfoldable pub ofOne : ℕ → Bool
 ofOne s = eqb (size s) 1
 
--- "A group vertex is one that is not a user's own": the sets of a layer's group vertices
+-- "any other vertex is a group vertex": the sets of a layer's group vertices
 unfoldable pub groups : Layer → List ℕ
 groups L = keep (λ s. not (ofOne s)) (L .sets)
