@@ -63,7 +63,7 @@ impl Item {
             Call::Check | Call::View(..) => {}
             _ => lent.list = Memory::of(&[0; 3 * 400]),
         }
-        lent
+        lent.for_call(self.call)
     }
 }
 
@@ -94,7 +94,7 @@ fn calls(heading: &str, book: &Book) -> Group {
         Call::Read,
         Call::Write,
         Call::Join,
-        Call::Insert(new_list.0),
+        Call::insert(new_list.0),
         Call::Grant(r, outsider),
         Call::Revoke(r, listed),
         Call::View(listed, r),
@@ -436,7 +436,7 @@ fn told_count(counted: Result<[u64; 2], String>, say: &impl Fn(&str)) -> Option<
 /// The call as words for `counted`; a list is its number.
 fn words(call: Call) -> String {
     match call {
-        Call::Insert(list) => format!("insert {list}"),
+        Call::Insert(list, _) => format!("insert {list}"),
         _ => call.to_string(),
     }
 }
@@ -453,7 +453,7 @@ pub fn call_of(words: &str) -> Option<Call> {
         ("read", []) => Call::Read,
         ("write", []) => Call::Write,
         ("join", []) => Call::Join,
-        ("insert", &[list]) => Call::Insert(list),
+        ("insert", &[list]) => Call::insert(list),
         ("grant", &[r, u]) => Call::Grant(small(r)?, small(u)?),
         ("revoke", &[r, u]) => Call::Revoke(small(r)?, small(u)?),
         ("view", &[u, r]) => Call::View(small(u)?, small(r)?),
