@@ -139,13 +139,13 @@ extern "C" {
 /* the head's places */
 #define FENSTUBBLE_HEAD_LEN 7
 enum fenstubble_head_place {
-    FENSTUBBLE_HEAD_MODE = 0,
-    FENSTUBBLE_HEAD_USERS = 1,
-    FENSTUBBLE_HEAD_RESOURCES = 2,
-    FENSTUBBLE_HEAD_INNER_VERTICES = 3,
-    FENSTUBBLE_HEAD_INNER_TOKENS = 4,
-    FENSTUBBLE_HEAD_OUTER_VERTICES = 5,
-    FENSTUBBLE_HEAD_OUTER_TOKENS = 6
+    FENSTUBBLE_HEAD_MODE = 0,           /* enum fenstubble_mode */
+    FENSTUBBLE_HEAD_USERS = 1,          /* users who have joined */
+    FENSTUBBLE_HEAD_RESOURCES = 2,      /* folders: rows that count in resources */
+    FENSTUBBLE_HEAD_INNER_VERTICES = 3, /* rows that count in inner_vertices, the users' own among them */
+    FENSTUBBLE_HEAD_INNER_TOKENS = 4,   /* rows that count in inner_tokens */
+    FENSTUBBLE_HEAD_OUTER_VERTICES = 5, /* rows that count in outer_vertices, the users' own among them */
+    FENSTUBBLE_HEAD_OUTER_TOKENS = 6    /* rows that count in outer_tokens */
 };
 
 enum fenstubble_mode {
@@ -159,13 +159,13 @@ enum fenstubble_token_kind {
     FENSTUBBLE_TOKEN_ACCESS = 1      /* leads to the access key and no further */
 };
 
-/* the tables, and the sections of a book's bytes */
+/* the sections of a book's bytes, with a row of each: that of its table */
 enum fenstubble_section_number {
-    FENSTUBBLE_SECTION_INNER_VERTICES = 0,
-    FENSTUBBLE_SECTION_INNER_TOKENS = 1,
-    FENSTUBBLE_SECTION_OUTER_VERTICES = 2,
-    FENSTUBBLE_SECTION_OUTER_TOKENS = 3,
-    FENSTUBBLE_SECTION_RESOURCES = 4
+    FENSTUBBLE_SECTION_INNER_VERTICES = 0, /* set */
+    FENSTUBBLE_SECTION_INNER_TOKENS = 1,   /* from, to, kind (enum fenstubble_token_kind) */
+    FENSTUBBLE_SECTION_OUTER_VERTICES = 2, /* set */
+    FENSTUBBLE_SECTION_OUTER_TOKENS = 3,   /* from, to */
+    FENSTUBBLE_SECTION_RESOURCES = 4       /* list, inner, outer or FENSTUBBLE_NO_OUTER */
 };
 
 /* what a user knows of a folder's two keys. Where there is no outer lock the outer key counts as known */
