@@ -1,19 +1,245 @@
-/* Fenstubble's C interface. Every call is proved; nothing is allocated and nothing is kept between calls.
+/* Fenstubble: who may read which folder, under which keys, tokens and locks. This file is all that a host needs to know.
  *
- * A book is a head and five tables that the caller keeps. `head` is at least 7 numbers: mode (0 full, 1 delta), users, resources, inner vertices,
- * inner tokens, outer vertices, outer tokens. The tables are bytes, with the rows of the book's sections: inner vertices (8 bytes a row, at least 320
- * rows), inner tokens (5, 4096), outer vertices (8, 512), outer tokens (4, 4096), resources (12, 256). Each pointer is followed by its length: of
- * bytes for a table or a buffer, of numbers for a list.
+ * The engine decides, the host obeys. The engine holds no key bytes and no cipher: it keeps a book of numbers, and answers each request with orders to
+ * the host, which has the keys. Every call is proved: it does what is said here on every input, ends, and reaches nothing but what it was lent.
  *
- * Order rows are three numbers each. The result is 0, or the refusal's number; 11 comes as 11 + 256 * view. A refusal leaves everything that was lent
- * as it was, the cells for counts, views and lengths too: look at the result first. A head of fewer than 7 numbers is 13, like a table that is too
- * short. */
+ *   uint16_t head[FENSTUBBLE_HEAD_LEN] = {FENSTUBBLE_MODE_DELTA};                the empty book, with five tables of any content
+ *   result = fenstubble_join(head, .., orders, FENSTUBBLE_ORDERS_LEN, &count);   user 0, and two orders
+ *   result = fenstubble_write(head, .., buffer, FENSTUBBLE_BOOK_BYTES, &length); bytes to keep together with the orders; then obey these
+ *
+ * THE WORLD. Users read folders; a folder is called `resource` in the names below. Each folder has a list, the set of the users who may read it. Keys
+ * belong to vertices, and a vertex is a set of users. There are two layers, each with vertices and tokens of its own: the inner one is the owner's, the
+ * outer one the storage's. A token leads from the key of one vertex to the key of another: who has the first derives the second. An inner vertex has a
+ * derivation key and an access key, which is the hash of the first; an outer vertex has one key. Each folder is encrypted with the access key of an
+ * inner vertex, and may be locked once more with the key of an outer vertex. A user is handed the derivation key of the own inner vertex and the key of
+ * the own outer vertex, and derives the rest. Proved: after any run of calls a user derives what opens a folder exactly if its list names that user.
+ *
+ * NUMBERS start at 0, in order of creation, each kind by itself: users, folders, inner vertices, inner tokens, outer vertices, outer tokens. A vertex
+ * number says nothing of a user: the own vertices of user 3 may be inner 5 and outer 7.
+ *
+ * THE BOOK is a head of seven numbers (enum fenstubble_head_place) and five tables of bytes. They are the caller's, who lends them to each call as the
+ * last one left them. A table is at least as long as its limit asks (FENSTUBBLE_.._BYTES), however little of it is used; the head says how many rows
+ * count, from the first on, and what stands behind those is neither looked at nor touched.
+ *
+ *   table            bytes of a row               most rows
+ *   inner_vertices   set 8                        320, for 64 users and 256 folders
+ *   inner_tokens     from 2, to 2, kind 1         4096
+ *   outer_vertices   set 8                        512, for 64 users and 448 groups
+ *   outer_tokens     from 2, to 2                 4096
+ *   resources        list 8, inner 2, outer 2     256
+ *
+ * A number of 2 bytes is little-endian. `from`, `to`, `inner` and `outer` are vertex numbers of their layer; `outer` is 65535 (FENSTUBBLE_NO_OUTER)
+ * where the folder has no outer lock. Kind 0 leads to the derivation key of `to`, kind 1 to its access key alone. A set is 8 bytes: bit i % 8 of byte
+ * i / 8 is user i, so that user 0 is bit 0 of the first byte. The set of an inner vertex is that of the users who derive its derivation key.
+ *
+ * The empty book is a head of zeros but for its mode, with tables of any content. Mode full (0) puts an outer lock on every folder; mode delta (1) only
+ * where the inner one lets too many in.
+ *
+ * AS BYTES a book is 17 bytes (FENSTUBBLE_BOOK_HEADER), then the rows that count of the five tables, in the order above, and nothing else:
+ *
+ *   at   bytes                                 at   bytes
+ *   0    3   "TKB" (54 4B 42)                  9    2   inner vertices
+ *   3    2   1, the version of this layout     11   2   inner tokens
+ *   5    1   mode                              13   2   outer vertices
+ *   6    1   users                             15   2   outer tokens
+ *   7    2   folders                           17       the rows
+ *
+ * THE RESULT of a call is 0 (done) or the number of the refusal; 11 comes as 11 + 256 * view. FENSTUBBLE_NUMBER and FENSTUBBLE_VIEW take it apart, and
+ * fenstubble_reason says it in words. Look at it first: a refused call leaves all that it was lent as it was, head, tables, lists and buffers, and the
+ * cells for counts, views and lengths too, which then tell nothing.
+ *
+ * ORDERS are rows of three numbers: kind, a, b (enum fenstubble_order). The host obeys them in their order. The new book and its orders are kept
+ * together, in one step (one file replaced, one transaction), before the first order is obeyed; a host that was stopped obeys them all again, from the
+ * first, so obeying one twice must do no harm.
+ *   - A new user's number is head[FENSTUBBLE_HEAD_USERS] before the join, which is the number of users less 1 after it. A new folder's is
+ *     head[FENSTUBBLE_HEAD_RESOURCES] before the insert, the number of folders less 1 after it.
+ *   - A join has two orders, 4 and 1. The keys that they make are the new user's own, to be handed to that user. No other request makes a user's own
+ *     vertex, and nobody is handed the keys of the others.
+ *
+ * LENDING. A pointer is followed by its length: in bytes for a table, a set, a book or a buffer, in numbers (not in rows) for a head or a list.
+ *   - Nothing that a call may write (what is not const) overlaps anything else that it is lent.
+ *   - Pointers to uint16_t, uint64_t and size_t are aligned as their type asks; bytes need no alignment.
+ *   - A pointer may be NULL only where its length is 0. A head, table or set of length 0 is too short (13); a list of length 0 has room for nothing
+ *     (10, where there is a row to give). The cells (count, view, inner, outer, start, length, used) are never NULL.
+ *   - While a call runs, nobody else writes what it was lent or reads what it may write. There is no state and nothing is kept between calls: threads
+ *     may call at once on different books, and on one book in calls that take it as const.
+ *   - A call uses at most FENSTUBBLE_STACK_BYTES of stack, its arguments there included, and also where the walk of an open calls itself, at most 63
+ *     deep. It allocates nothing, leaves errno alone, and does no input or output. x86-64, System V calling convention.
+ *
+ * VERSION. FENSTUBBLE_VERSION is that of this file, fenstubble_version() that of the library, which fits if its major number is the same and it is
+ * not older:
+ *   fenstubble_version() / 10000 == FENSTUBBLE_VERSION / 10000 && fenstubble_version() >= FENSTUBBLE_VERSION */
 #ifndef FENSTUBBLE_H
 #define FENSTUBBLE_H
 
 #include <stddef.h>
 #include <stdint.h>
 
+#ifdef __cplusplus
+extern "C" {
+#endif
+
+/* major * 10000 + minor * 100 + patch */
+#define FENSTUBBLE_VERSION 10000
+#define FENSTUBBLE_VERSION_TEXT "1.0.0"
+
+/* ---- limits and sizes */
+
+#define FENSTUBBLE_USERS 64
+#define FENSTUBBLE_RESOURCES 256
+#define FENSTUBBLE_INNER_TOKENS 4096 /* of both kinds together */
+#define FENSTUBBLE_OUTER_TOKENS 4096
+#define FENSTUBBLE_OUTER_GROUPS 448 /* outer vertices that are no user's own; the inner ones are never more than the folders */
+
+#define FENSTUBBLE_SET_BYTES 8
+
+/* rows that a table must have room for */
+#define FENSTUBBLE_INNER_VERTICES_ROWS (FENSTUBBLE_USERS + FENSTUBBLE_RESOURCES)
+#define FENSTUBBLE_INNER_TOKENS_ROWS FENSTUBBLE_INNER_TOKENS
+#define FENSTUBBLE_OUTER_VERTICES_ROWS (FENSTUBBLE_USERS + FENSTUBBLE_OUTER_GROUPS)
+#define FENSTUBBLE_OUTER_TOKENS_ROWS FENSTUBBLE_OUTER_TOKENS
+#define FENSTUBBLE_RESOURCES_ROWS FENSTUBBLE_RESOURCES
+
+/* bytes of a row */
+#define FENSTUBBLE_INNER_VERTICES_WIDTH FENSTUBBLE_SET_BYTES
+#define FENSTUBBLE_INNER_TOKENS_WIDTH 5
+#define FENSTUBBLE_OUTER_VERTICES_WIDTH FENSTUBBLE_SET_BYTES
+#define FENSTUBBLE_OUTER_TOKENS_WIDTH 4
+#define FENSTUBBLE_RESOURCES_WIDTH (FENSTUBBLE_SET_BYTES + 4)
+
+/* least length of a table in bytes: 2560, 20480, 4096, 16384, 3072 */
+#define FENSTUBBLE_INNER_VERTICES_BYTES (FENSTUBBLE_INNER_VERTICES_ROWS * FENSTUBBLE_INNER_VERTICES_WIDTH)
+#define FENSTUBBLE_INNER_TOKENS_BYTES (FENSTUBBLE_INNER_TOKENS_ROWS * FENSTUBBLE_INNER_TOKENS_WIDTH)
+#define FENSTUBBLE_OUTER_VERTICES_BYTES (FENSTUBBLE_OUTER_VERTICES_ROWS * FENSTUBBLE_OUTER_VERTICES_WIDTH)
+#define FENSTUBBLE_OUTER_TOKENS_BYTES (FENSTUBBLE_OUTER_TOKENS_ROWS * FENSTUBBLE_OUTER_TOKENS_WIDTH)
+#define FENSTUBBLE_RESOURCES_BYTES (FENSTUBBLE_RESOURCES_ROWS * FENSTUBBLE_RESOURCES_WIDTH)
+
+#define FENSTUBBLE_BOOK_HEADER 17
+#define FENSTUBBLE_BOOK_BYTES 46609 /* of the largest book: the header and all tables full */
+
+#define FENSTUBBLE_NO_OUTER 65535 /* in the place of an outer vertex: none */
+
+/* numbers of a row in an order list, and in the requests and answers of fenstubble_serve */
+#define FENSTUBBLE_ORDER_WIDTH 3
+#define FENSTUBBLE_REQUEST_WIDTH 3
+#define FENSTUBBLE_ANSWER_WIDTH 3
+
+/* most order rows of one request: with a list of this length no request is refused with 10. By request: join 2, insert 132, grant 385, revoke 65 */
+#define FENSTUBBLE_ORDER_ROWS 385
+#define FENSTUBBLE_ORDERS_LEN (FENSTUBBLE_ORDER_ROWS * FENSTUBBLE_ORDER_WIDTH)
+
+/* most rows of an open: 63 tokens of each layer. A list of this length is never too short for fenstubble_open, which gives one number a row */
+#define FENSTUBBLE_OPEN_ROWS 126
+
+/* stack of a call: measured, and rounded up to a whole KB */
+#define FENSTUBBLE_STACK_BYTES (38 * 1024)
+
+/* ---- numbers and their meaning */
+
+/* the head's places */
+#define FENSTUBBLE_HEAD_LEN 7
+enum fenstubble_head_place {
+    FENSTUBBLE_HEAD_MODE = 0,           /* enum fenstubble_mode */
+    FENSTUBBLE_HEAD_USERS = 1,          /* users who have joined */
+    FENSTUBBLE_HEAD_RESOURCES = 2,      /* folders: rows that count in resources */
+    FENSTUBBLE_HEAD_INNER_VERTICES = 3, /* rows that count in inner_vertices, the users' own among them */
+    FENSTUBBLE_HEAD_INNER_TOKENS = 4,   /* rows that count in inner_tokens */
+    FENSTUBBLE_HEAD_OUTER_VERTICES = 5, /* rows that count in outer_vertices, the users' own among them */
+    FENSTUBBLE_HEAD_OUTER_TOKENS = 6    /* rows that count in outer_tokens */
+};
+
+enum fenstubble_mode {
+    FENSTUBBLE_MODE_FULL = 0, /* an outer lock on every folder */
+    FENSTUBBLE_MODE_DELTA = 1 /* an outer lock only where the inner one lets too many in */
+};
+
+/* the kind of an inner token */
+enum fenstubble_token_kind {
+    FENSTUBBLE_TOKEN_DERIVATION = 0, /* leads to the derivation key, and through further tokens to what lies behind it */
+    FENSTUBBLE_TOKEN_ACCESS = 1      /* leads to the access key and no further */
+};
+
+/* the sections of a book's bytes, with a row of each: that of its table */
+enum fenstubble_section_number {
+    FENSTUBBLE_SECTION_INNER_VERTICES = 0, /* set */
+    FENSTUBBLE_SECTION_INNER_TOKENS = 1,   /* from, to, kind (enum fenstubble_token_kind) */
+    FENSTUBBLE_SECTION_OUTER_VERTICES = 2, /* set */
+    FENSTUBBLE_SECTION_OUTER_TOKENS = 3,   /* from, to */
+    FENSTUBBLE_SECTION_RESOURCES = 4       /* list, inner, outer or FENSTUBBLE_NO_OUTER */
+};
+
+/* what a user knows of a folder's two keys. Where there is no outer lock the outer key counts as known */
+enum fenstubble_view_number {
+    FENSTUBBLE_VIEW_OPEN = 0,         /* both: the user opens the folder */
+    FENSTUBBLE_VIEW_OUTER_LOCKED = 1, /* the inner alone: the outer lock keeps the user out */
+    FENSTUBBLE_VIEW_INNER_LOCKED = 2, /* the outer alone: the encryption keeps the user out */
+    FENSTUBBLE_VIEW_LOCKED = 3        /* neither */
+};
+
+/* an order's kind, with its a and b, and what the host does for it: 1 to 3 in the outer layer, the storage's, 4 to 7 in the inner one, the owner's.
+ * How keys, tokens and locks are made is the host's affair. A token's row number is its row in its table: inner tokens count orders 5 and 6
+ * together, outer tokens orders 2, from 0 since the empty book. */
+enum fenstubble_order {
+    FENSTUBBLE_ORDER_OUTER_KEY = 1,    /* v 0: make a key for outer vertex v */
+    FENSTUBBLE_ORDER_OUTER_TOKEN = 2,  /* v w: publish an outer token, which from the key of vertex v gives the key of vertex w */
+    FENSTUBBLE_ORDER_LOCK = 3,         /* r v: take the outer lock of folder r off, if it has one, and lock it with the key of outer vertex v;
+                                        * where v is FENSTUBBLE_NO_OUTER it stays off */
+    FENSTUBBLE_ORDER_INNER_KEY = 4,    /* v 0: make a derivation key for inner vertex v; its access key is the hash of that one */
+    FENSTUBBLE_ORDER_INNER_TOKEN = 5,  /* v w: publish an inner token, which from the derivation key of vertex v gives that of vertex w */
+    FENSTUBBLE_ORDER_ACCESS_TOKEN = 6, /* v w: publish an inner token, which from the derivation key of vertex v gives the access key of vertex w,
+                                        * and nothing that lies behind it */
+    FENSTUBBLE_ORDER_ENCRYPT = 7       /* r v: encrypt the new folder r with the access key of inner vertex v */
+};
+
+/* why a call was refused: fenstubble_reason has the words */
+enum fenstubble_refusal {
+    FENSTUBBLE_DONE = 0,              /* it was not refused */
+    FENSTUBBLE_NO_SUCH = 1,           /* no such user, folder or section, or a list names a user who has not joined */
+    FENSTUBBLE_USERS_FULL = 2,        /* a join at 64 users */
+    FENSTUBBLE_RESOURCES_FULL = 3,    /* an insert at 256 folders */
+    FENSTUBBLE_EMPTY_LIST = 4,        /* an insert for nobody */
+    FENSTUBBLE_LISTED = 5,            /* a grant to a user whom the list names */
+    FENSTUBBLE_NOT_LISTED = 6,        /* a revoke from a user whom the list does not name */
+    FENSTUBBLE_GROUPS_FULL = 7,       /* the request would leave more than 448 outer groups */
+    FENSTUBBLE_INNER_TOKENS_FULL = 8, /* more than 4096 inner tokens */
+    FENSTUBBLE_OUTER_TOKENS_FULL = 9, /* more than 4096 outer tokens */
+    FENSTUBBLE_SHORT_LIST = 10,       /* the list or buffer lent for the answer is too short */
+    FENSTUBBLE_CLOSED = 11,           /* an open whose view is not 0: the view comes with it */
+    FENSTUBBLE_UNSOUND = 12,          /* the head and tables, or the bytes, are not a sound book. Any content is safe to lend: it is judged first */
+    FENSTUBBLE_SHORT_TABLE = 13,      /* a head of fewer than 7 numbers, a table shorter than its limit, a set of fewer than 8 bytes */
+    FENSTUBBLE_MALFORMED = 14         /* a line that is no request: from the program `fenstubble` alone, never from a call */
+};
+
+/* a result taken apart: the refusal's number or 0, and the view, which is 0 but for 11 */
+#define FENSTUBBLE_NUMBER(result) ((result) % 256)
+#define FENSTUBBLE_VIEW(result) ((result) / 256)
+
+/* A result in words; "no such refusal" where there is none of that number. It stands here and not in the library, where every function is proved. */
+static inline const char *fenstubble_reason(uint16_t result) {
+    static const char *const reasons[] = {
+        "done",
+        "there is no such user, folder or section, or the list names a user who has not joined",
+        "64 users have joined, and a book has no room for more",
+        "256 folders are there, and a book has no room for more",
+        "the list is empty: a folder is inserted for at least one user",
+        "the user may read the folder already",
+        "the user may not read the folder anyway",
+        "it takes more than 448 outer groups: use lists that are there already, or begin another book",
+        "it takes more than 4096 inner tokens: use lists that are there already, or begin another book",
+        "it takes more than 4096 outer tokens: use lists that are there already, or begin another book",
+        "the list or buffer lent for the answer is too short: lend a longer one",
+        "the folder is closed to this user",
+        "this is not a sound book: go back to the last one that was kept",
+        "a head, table or set that was lent is too short",
+        "the line is not a request: see fenstubble --help",
+    };
+    size_t number = FENSTUBBLE_NUMBER(result);
+    return number < sizeof reasons / sizeof *reasons ? reasons[number] : "no such refusal";
+}
+
+/* ---- the calls. Behind each stand the refusals that it can give, in the order in which they are judged: the first that holds is given. */
+
+/* a book's tables, to write and to read */
 #define FENSTUBBLE_TABLES                                                                                                                            \
     uint8_t *inner_vertices, size_t inner_vertices_len, uint8_t *inner_tokens, size_t inner_tokens_len, uint8_t *outer_vertices,                     \
         size_t outer_vertices_len, uint8_t *outer_tokens, size_t outer_tokens_len, uint8_t *resources, size_t resources_len
@@ -22,39 +248,78 @@
     const uint8_t *inner_vertices, size_t inner_vertices_len, const uint8_t *inner_tokens, size_t inner_tokens_len, const uint8_t *outer_vertices,   \
         size_t outer_vertices_len, const uint8_t *outer_tokens, size_t outer_tokens_len, const uint8_t *resources, size_t resources_len
 
-/* 13 and 12: the tables are long enough and hold a sound book. */
+/* The library's version, as FENSTUBBLE_VERSION. */
+uint32_t fenstubble_version(void);
+
+/* Whether the head and tables hold a sound book. Every other call that is lent a book judges this too, first.
+ * 13, 12 */
 uint16_t fenstubble_check(const uint16_t *head, size_t head_len, FENSTUBBLE_CONST_TABLES);
 
-/* Section k (0 to 4) of a book's bytes is the stretch from *start on of *length bytes. */
+/* Section k of a book's bytes (enum fenstubble_section_number) is the stretch of *length bytes from book + *start on.
+ * 12, 1 */
 uint16_t fenstubble_section(const uint8_t *book, size_t book_len, size_t k, size_t *start, size_t *length);
 
-/* A book's bytes into head and tables. */
+/* A book's bytes into head and tables; what these held before does not count.
+ * 13, 12 (of the bytes) */
 uint16_t fenstubble_read(const uint8_t *book, size_t book_len, uint16_t *head, size_t head_len, FENSTUBBLE_TABLES);
 
-/* The book as bytes into the buffer; *length is how many. */
+/* The book as bytes into the buffer; *length is how many. With FENSTUBBLE_BOOK_BYTES the buffer is never too short.
+ * 13, 12, 10 */
 uint16_t fenstubble_write(const uint16_t *head, size_t head_len, FENSTUBBLE_CONST_TABLES, uint8_t *buffer, size_t buffer_len, size_t *length);
 
-/* The requests. *count is how many order rows were given. */
+/* The requests. *count is how many order rows were given, from the first of the list on. */
+
+/* A new user.
+ * 13, 12, 2, 10 */
 uint16_t fenstubble_join(uint16_t *head, size_t head_len, FENSTUBBLE_TABLES, uint16_t *orders, size_t orders_len, uint16_t *count);
-uint16_t fenstubble_insert(uint16_t *head, size_t head_len, FENSTUBBLE_TABLES, uint16_t *orders, size_t orders_len, uint16_t *count, uint64_t list);
+
+/* A new folder for the users of `list`, a set: FENSTUBBLE_SET_BYTES bytes, and any behind them are not looked at.
+ * 13, 12, 1, 4, 3, 7, 8, 9, 10 */
+uint16_t fenstubble_insert(uint16_t *head, size_t head_len, FENSTUBBLE_TABLES, uint16_t *orders, size_t orders_len, uint16_t *count,
+                           const uint8_t *list, size_t list_len);
+
+/* The user may read the folder from now on.
+ * 13, 12, 1, 5, 7, 8, 9, 10 */
 uint16_t fenstubble_grant(uint16_t *head, size_t head_len, FENSTUBBLE_TABLES, uint16_t *orders, size_t orders_len, uint16_t *count, uint16_t resource,
                           uint16_t user);
+
+/* The user may not read the folder any more.
+ * 13, 12, 1, 6, 7, 9, 10 */
 uint16_t fenstubble_revoke(uint16_t *head, size_t head_len, FENSTUBBLE_TABLES, uint16_t *orders, size_t orders_len, uint16_t *count, uint16_t resource,
                            uint16_t user);
 
-/* The view (0 to 3) of a user on a resource. */
+/* What the user knows of the folder's keys: *view is one of enum fenstubble_view_number.
+ * 13, 12, 1 */
 uint16_t fenstubble_view(const uint16_t *head, size_t head_len, FENSTUBBLE_CONST_TABLES, uint16_t user, uint16_t resource, uint16_t *view);
 
-/* The token rows by which a user opens a resource: the inner chain's rows, then the outer chain's; *inner and *outer are how many of each. */
+/* The tokens by which the user opens the folder, by their row numbers: *inner numbers for the inner chain, then *outer for the outer one, each chain in
+ * the order in which it is followed, from a key that the user was handed to the folder's. A chain is empty where the user's own key is the folder's, or
+ * where there is no outer lock.
+ * 13, 12, 1, 11, 10 */
 uint16_t fenstubble_open(const uint16_t *head, size_t head_len, FENSTUBBLE_CONST_TABLES, uint16_t user, uint16_t resource, uint16_t *list,
                          size_t list_len, uint16_t *inner, uint16_t *outer);
 
-/* Several requests in one call: 13 and 12 once, first; then each on the book that those before it left and on the order rows left, as its own call would.
- * A request is three numbers: 0 join (the others do not count); 1 insert, the list as a set, 0 (or not 0 where the list also names a user above 63); 2 grant,
- * resource, user; 3 revoke, resource, user; 4 open, user, resource. Its answer is three numbers: the refusal's number or 0, the view for 11, the count of
- * its rows in the order list. An open's rows are (105, row, 0) for the inner chain and (111, row, 0) for the outer. *used is how many order rows all
- * used. Fewer answer rows than request rows is 10 for the whole call. */
+/* Several requests in one call, each on the book that those before it left and on the order rows left, as its own call would; a refused one changes
+ * nothing, uses no rows, and the next one goes on. A request row is three numbers: its kind (enum fenstubble_request), a, b. Its answer row is three
+ * numbers: the refusal's number or 0, the view for 11, and how many order rows it was given; they follow those of the requests before it. *used is how
+ * many rows all used. The book is judged once, first, so that no answer row has 13 or 12. Numbers past the last whole row of three do not count.
+ * 13, 12, 10 (fewer answer rows than request rows) */
 uint16_t fenstubble_serve(uint16_t *head, size_t head_len, FENSTUBBLE_TABLES, const uint64_t *requests, size_t requests_len, uint16_t *answers,
                           size_t answers_len, uint16_t *orders, size_t orders_len, size_t *used);
+
+/* the kind of a request row; any other is answered with 1 */
+enum fenstubble_request {
+    FENSTUBBLE_REQUEST_JOIN = 0,   /* a and b do not count */
+    FENSTUBBLE_REQUEST_INSERT = 1, /* a: the list as a number, bit i for user i. b: 0; any other says that the list names a user above 63, which is 1 */
+    FENSTUBBLE_REQUEST_GRANT = 2,  /* a: the folder. b: the user */
+    FENSTUBBLE_REQUEST_REVOKE = 3, /* a: the folder. b: the user */
+    FENSTUBBLE_REQUEST_OPEN = 4    /* a: the user. b: the folder. Its rows in the order list are FENSTUBBLE_ROW_INNER or _OUTER, token row, 0 */
+};
+#define FENSTUBBLE_ROW_INNER 105 /* 'i' */
+#define FENSTUBBLE_ROW_OUTER 111 /* 'o' */
+
+#ifdef __cplusplus
+}
+#endif
 
 #endif

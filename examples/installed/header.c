@@ -1,0 +1,393 @@
+/* Holds fenstubble.h to the library: what the header says of sizes, lending, numbers and layouts is so. It ends with status 1 at the first thing
+ * that is not. */
+#define _XOPEN_SOURCE 700
+#include <fenstubble.h>
+#include <stdio.h>
+#include <stdlib.h>
+#include <string.h>
+#include <ucontext.h>
+
+/* ---- sizes, each as a plain number */
+
+_Static_assert(FENSTUBBLE_USERS == 64 && FENSTUBBLE_RESOURCES == 256, "users and folders");
+_Static_assert(FENSTUBBLE_INNER_TOKENS == 4096 && FENSTUBBLE_OUTER_TOKENS == 4096 && FENSTUBBLE_OUTER_GROUPS == 448, "tokens and groups");
+_Static_assert(FENSTUBBLE_INNER_VERTICES_ROWS == 320 && FENSTUBBLE_OUTER_VERTICES_ROWS == 512, "rows of vertices");
+_Static_assert(FENSTUBBLE_INNER_TOKENS_ROWS == 4096 && FENSTUBBLE_OUTER_TOKENS_ROWS == 4096, "rows of tokens");
+_Static_assert(FENSTUBBLE_RESOURCES_ROWS == 256, "rows of resources");
+_Static_assert(FENSTUBBLE_INNER_VERTICES_WIDTH == 8 && FENSTUBBLE_OUTER_VERTICES_WIDTH == 8, "widths of vertices");
+_Static_assert(FENSTUBBLE_INNER_TOKENS_WIDTH == 5 && FENSTUBBLE_OUTER_TOKENS_WIDTH == 4, "widths of tokens");
+_Static_assert(FENSTUBBLE_RESOURCES_WIDTH == 12 && FENSTUBBLE_SET_BYTES == 8, "widths of resources and sets");
+_Static_assert(FENSTUBBLE_INNER_VERTICES_BYTES == 2560 && FENSTUBBLE_OUTER_VERTICES_BYTES == 4096, "bytes of vertices");
+_Static_assert(FENSTUBBLE_INNER_TOKENS_BYTES == 20480 && FENSTUBBLE_OUTER_TOKENS_BYTES == 16384, "bytes of tokens");
+_Static_assert(FENSTUBBLE_RESOURCES_BYTES == 3072, "bytes of resources");
+_Static_assert(FENSTUBBLE_BOOK_HEADER == 17 && FENSTUBBLE_BOOK_BYTES == 46609, "bytes of a book");
+_Static_assert(FENSTUBBLE_BOOK_BYTES == FENSTUBBLE_BOOK_HEADER + FENSTUBBLE_INNER_VERTICES_BYTES + FENSTUBBLE_INNER_TOKENS_BYTES +
+                                            FENSTUBBLE_OUTER_VERTICES_BYTES + FENSTUBBLE_OUTER_TOKENS_BYTES + FENSTUBBLE_RESOURCES_BYTES,
+               "the largest book is the header and all tables");
+_Static_assert(FENSTUBBLE_HEAD_LEN == 7 && FENSTUBBLE_HEAD_MODE == 0 && FENSTUBBLE_HEAD_USERS == 1 && FENSTUBBLE_HEAD_RESOURCES == 2, "the head");
+_Static_assert(FENSTUBBLE_HEAD_INNER_VERTICES == 3 && FENSTUBBLE_HEAD_INNER_TOKENS == 4, "the head's inner layer");
+_Static_assert(FENSTUBBLE_HEAD_OUTER_VERTICES == 5 && FENSTUBBLE_HEAD_OUTER_TOKENS == 6, "the head's outer layer");
+_Static_assert(FENSTUBBLE_SECTION_INNER_VERTICES == 0 && FENSTUBBLE_SECTION_INNER_TOKENS == 1, "the inner sections");
+_Static_assert(FENSTUBBLE_SECTION_OUTER_VERTICES == 2 && FENSTUBBLE_SECTION_OUTER_TOKENS == 3, "the outer sections");
+_Static_assert(FENSTUBBLE_SECTION_RESOURCES == 4, "the last section");
+_Static_assert(FENSTUBBLE_ORDER_WIDTH == 3 && FENSTUBBLE_REQUEST_WIDTH == 3 && FENSTUBBLE_ANSWER_WIDTH == 3, "rows of three");
+_Static_assert(FENSTUBBLE_ORDER_ROWS == 385 && FENSTUBBLE_ORDERS_LEN == 1155 && FENSTUBBLE_OPEN_ROWS == 126, "most rows");
+_Static_assert(FENSTUBBLE_NO_OUTER == 65535 && FENSTUBBLE_ROW_INNER == 'i' && FENSTUBBLE_ROW_OUTER == 'o', "marks");
+
+/* ---- a book to lend */
+
+static struct book {
+    uint16_t head[FENSTUBBLE_HEAD_LEN];
+    uint8_t tables[5][FENSTUBBLE_INNER_TOKENS_BYTES + 1]; /* each at an odd address or not, as it comes: bytes need no alignment */
+    uint8_t *table[5];
+    size_t length[5];
+} book, before;
+
+static uint16_t orders[FENSTUBBLE_ORDERS_LEN], count;
+
+#define TABLES                                                                                                                                       \
+    book.table[0], book.length[0], book.table[1], book.length[1], book.table[2], book.length[2], book.table[3], book.length[3], book.table[4],       \
+        book.length[4]
+#define BOOK book.head, FENSTUBBLE_HEAD_LEN, TABLES
+#define ORDERS orders, FENSTUBBLE_ORDERS_LEN, &count
+
+static void expect_at(int met, int line) {
+    if (!met) {
+        fprintf(stderr, "header.c:%d: not as the header says\n", line);
+        exit(1);
+    }
+}
+#define expect(met) expect_at(met, __LINE__)
+
+/* The empty book in tables of noise, each as long as it has to be and no longer. */
+static void begin(uint16_t mode) {
+    static const size_t lengths[] = {FENSTUBBLE_INNER_VERTICES_BYTES, FENSTUBBLE_INNER_TOKENS_BYTES, FENSTUBBLE_OUTER_VERTICES_BYTES,
+                                     FENSTUBBLE_OUTER_TOKENS_BYTES, FENSTUBBLE_RESOURCES_BYTES};
+    memset(&book, 0xA5, sizeof book);
+    memset(book.head, 0, sizeof book.head);
+    book.head[FENSTUBBLE_HEAD_MODE] = mode;
+    for (int t = 0; t < 5; t++) {
+        book.table[t] = book.tables[t] + t % 2;
+        book.length[t] = lengths[t];
+    }
+    count = 999;
+}
+
+/* Three users, folder 0 for users 0 and 1; the set's second eight bytes are noise that does not count. */
+static void story(uint16_t mode) {
+    static const uint8_t set[16] = {3, 0, 0, 0, 0, 0, 0, 0, 255, 255, 255, 255, 255, 255, 255, 255};
+    begin(mode);
+    for (int user = 0; user < 3; user++)
+        expect(fenstubble_join(BOOK, ORDERS) == FENSTUBBLE_DONE);
+    expect(fenstubble_insert(BOOK, ORDERS, set, sizeof set) == FENSTUBBLE_DONE);
+}
+
+/* ---- what the header says */
+
+static void versions(void) {
+    char text[32];
+    snprintf(text, sizeof text, "%d.%d.%d", FENSTUBBLE_VERSION / 10000, FENSTUBBLE_VERSION / 100 % 100, FENSTUBBLE_VERSION % 100);
+    expect(fenstubble_version() == FENSTUBBLE_VERSION && strcmp(text, FENSTUBBLE_VERSION_TEXT) == 0);
+}
+
+/* A line for each refusal, no two alike; the view beside a number does not change it; any other number has none. */
+static void reasons(void) {
+    for (unsigned result = 0; result <= 65535; result++) {
+        const char *reason = fenstubble_reason((uint16_t)result);
+        if (result % 256 > FENSTUBBLE_MALFORMED)
+            expect(strcmp(reason, "no such refusal") == 0);
+        else
+            expect(reason == fenstubble_reason(result % 256) && reason[0] != 0 && strcmp(reason, "no such refusal") != 0);
+    }
+    expect(strcmp(fenstubble_reason(FENSTUBBLE_DONE), "done") == 0);
+    for (uint16_t a = 0; a <= FENSTUBBLE_MALFORMED; a++)
+        for (uint16_t b = 0; b < a; b++)
+            expect(strcmp(fenstubble_reason(a), fenstubble_reason(b)) != 0);
+    expect(fenstubble_reason(FENSTUBBLE_CLOSED + 256 * FENSTUBBLE_VIEW_LOCKED) == fenstubble_reason(FENSTUBBLE_CLOSED));
+}
+
+/* A table, head or set that is one short is 13, and NULL with length 0 too; nothing is touched then. */
+static void lengths(void) {
+    static const uint8_t set[FENSTUBBLE_SET_BYTES] = {1};
+    story(FENSTUBBLE_MODE_DELTA);
+    expect(fenstubble_check(BOOK) == FENSTUBBLE_DONE);
+    for (int t = 0; t < 5; t++) {
+        uint8_t *table = book.table[t];
+        book.length[t]--;
+        expect(fenstubble_check(BOOK) == FENSTUBBLE_SHORT_TABLE && fenstubble_join(BOOK, ORDERS) == FENSTUBBLE_SHORT_TABLE);
+        book.length[t]++;
+        size_t length = book.length[t];
+        book.table[t] = NULL;
+        book.length[t] = 0;
+        expect(fenstubble_check(BOOK) == FENSTUBBLE_SHORT_TABLE && fenstubble_join(BOOK, ORDERS) == FENSTUBBLE_SHORT_TABLE);
+        book.table[t] = table;
+        book.length[t] = length;
+    }
+    expect(fenstubble_check(book.head, FENSTUBBLE_HEAD_LEN - 1, TABLES) == FENSTUBBLE_SHORT_TABLE);
+    expect(fenstubble_check(NULL, 0, TABLES) == FENSTUBBLE_SHORT_TABLE);
+    expect(fenstubble_join(NULL, 0, TABLES, ORDERS) == FENSTUBBLE_SHORT_TABLE);
+    expect(fenstubble_insert(BOOK, ORDERS, set, FENSTUBBLE_SET_BYTES - 1) == FENSTUBBLE_SHORT_TABLE);
+    expect(fenstubble_insert(BOOK, ORDERS, NULL, 0) == FENSTUBBLE_SHORT_TABLE);
+    expect(fenstubble_insert(BOOK, ORDERS, set, FENSTUBBLE_SET_BYTES) == FENSTUBBLE_DONE);
+}
+
+/* NULL with length 0 for a list or bytes: room for nothing, or no book. */
+static void nulls(void) {
+    uint16_t inner = 9, outer = 9;
+    size_t length = 9, start = 9, used = 9;
+    story(FENSTUBBLE_MODE_DELTA);
+    before = book;
+    count = 9;
+    expect(fenstubble_join(BOOK, NULL, 0, &count) == FENSTUBBLE_SHORT_LIST);
+    expect(fenstubble_join(BOOK, orders, 2 * FENSTUBBLE_ORDER_WIDTH - 1, &count) == FENSTUBBLE_SHORT_LIST);
+    expect(fenstubble_grant(BOOK, NULL, 0, &count, 0, 2) == FENSTUBBLE_SHORT_LIST);
+    expect(fenstubble_revoke(BOOK, NULL, 0, &count, 0, 1) == FENSTUBBLE_SHORT_LIST);
+    expect(fenstubble_open(BOOK, 1, 0, NULL, 0, &inner, &outer) == FENSTUBBLE_SHORT_LIST);
+    expect(fenstubble_write(BOOK, NULL, 0, &length) == FENSTUBBLE_SHORT_LIST);
+    expect(fenstubble_section(NULL, 0, 0, &start, &length) == FENSTUBBLE_UNSOUND);
+    expect(fenstubble_read(NULL, 0, BOOK) == FENSTUBBLE_UNSOUND);
+    expect(memcmp(&before, &book, sizeof book) == 0 && count == 9 && inner == 9 && outer == 9 && length == 9 && start == 9);
+    expect(fenstubble_serve(BOOK, NULL, 0, NULL, 0, NULL, 0, &used) == FENSTUBBLE_DONE && used == 0);
+    expect(memcmp(&before, &book, sizeof book) == 0);
+}
+
+/* Whose the numbers are that requests make, and what an open shows. */
+static void numbers(void) {
+    uint16_t rows[FENSTUBBLE_OPEN_ROWS], inner, outer, view = 9;
+    begin(FENSTUBBLE_MODE_FULL);
+    for (uint16_t user = 0; user < 3; user++) {
+        uint16_t vertex = book.head[FENSTUBBLE_HEAD_INNER_VERTICES], other = book.head[FENSTUBBLE_HEAD_OUTER_VERTICES];
+        expect(book.head[FENSTUBBLE_HEAD_USERS] == user && fenstubble_join(BOOK, ORDERS) == FENSTUBBLE_DONE && count == 2);
+        expect(book.head[FENSTUBBLE_HEAD_USERS] == user + 1);
+        expect(orders[0] == FENSTUBBLE_ORDER_INNER_KEY && orders[1] == vertex && orders[2] == 0);
+        expect(orders[3] == FENSTUBBLE_ORDER_OUTER_KEY && orders[4] == other && orders[5] == 0);
+    }
+    /* folder 0 for user 0 alone, whose own keys serve */
+    static const uint8_t own[FENSTUBBLE_SET_BYTES] = {1};
+    static const uint16_t locked[] = {FENSTUBBLE_ORDER_ENCRYPT, 0, 0, FENSTUBBLE_ORDER_LOCK, 0, 0};
+    expect(fenstubble_insert(BOOK, ORDERS, own, sizeof own) == FENSTUBBLE_DONE && count == 2 && memcmp(orders, locked, sizeof locked) == 0);
+    expect(book.head[FENSTUBBLE_HEAD_RESOURCES] == 1);
+    expect(fenstubble_open(BOOK, 0, 0, NULL, 0, &inner, &outer) == FENSTUBBLE_DONE && inner == 0 && outer == 0);
+    /* user 1 gets a token to the access key; both get an outer key */
+    static const uint16_t shared[] = {FENSTUBBLE_ORDER_ACCESS_TOKEN, 1, 0, FENSTUBBLE_ORDER_OUTER_KEY, 3, 0, FENSTUBBLE_ORDER_OUTER_TOKEN, 0, 3,
+                                      FENSTUBBLE_ORDER_OUTER_TOKEN,  1, 3, FENSTUBBLE_ORDER_LOCK,      0, 3};
+    expect(fenstubble_grant(BOOK, ORDERS, 0, 1) == FENSTUBBLE_DONE && count == 5 && memcmp(orders, shared, sizeof shared) == 0);
+    expect(fenstubble_open(BOOK, 1, 0, rows, FENSTUBBLE_OPEN_ROWS, &inner, &outer) == FENSTUBBLE_DONE && inner == 1 && outer == 1);
+    expect(rows[0] == 0 && rows[1] == 1);
+    expect(book.table[1][4] == FENSTUBBLE_TOKEN_ACCESS);
+    /* user 2 stays out, by both locks */
+    uint16_t result = fenstubble_open(BOOK, 2, 0, rows, FENSTUBBLE_OPEN_ROWS, &inner, &outer);
+    expect(FENSTUBBLE_NUMBER(result) == FENSTUBBLE_CLOSED && FENSTUBBLE_VIEW(result) == FENSTUBBLE_VIEW_LOCKED);
+    expect(fenstubble_view(BOOK, 2, 0, &view) == FENSTUBBLE_DONE && view == FENSTUBBLE_VIEW_LOCKED);
+    /* folder 1 for users 0 and 1 */
+    static const uint8_t both[FENSTUBBLE_SET_BYTES] = {3};
+    static const uint16_t made[] = {FENSTUBBLE_ORDER_INNER_KEY, 3, 0, FENSTUBBLE_ORDER_INNER_TOKEN, 0, 3, FENSTUBBLE_ORDER_INNER_TOKEN, 1, 3,
+                                    FENSTUBBLE_ORDER_ENCRYPT,   1, 3, FENSTUBBLE_ORDER_LOCK,        1, 3};
+    expect(fenstubble_insert(BOOK, ORDERS, both, sizeof both) == FENSTUBBLE_DONE && count == 5 && memcmp(orders, made, sizeof made) == 0);
+    /* a folder without an outer lock, and a user whom its inner one keeps out; one whom the outer lock keeps out */
+    story(FENSTUBBLE_MODE_DELTA);
+    expect(fenstubble_view(BOOK, 2, 0, &view) == FENSTUBBLE_DONE && view == FENSTUBBLE_VIEW_INNER_LOCKED);
+    expect(fenstubble_revoke(BOOK, ORDERS, 0, 1) == FENSTUBBLE_DONE);
+    expect(fenstubble_view(BOOK, 1, 0, &view) == FENSTUBBLE_DONE && view == FENSTUBBLE_VIEW_OUTER_LOCKED);
+    expect(fenstubble_view(BOOK, 0, 0, &view) == FENSTUBBLE_DONE && view == FENSTUBBLE_VIEW_OPEN);
+}
+
+/* ---- every refusal of a request, and the limit that it stands for */
+
+/* 64 users in an empty book. */
+static void crowd(uint16_t mode) {
+    begin(mode);
+    for (int user = 0; user < FENSTUBBLE_USERS; user++)
+        expect(fenstubble_join(BOOK, ORDERS) == FENSTUBBLE_DONE);
+}
+
+/* A folder for all but two users, or one where they are the same, or for these alone. */
+static uint16_t insert(int without, unsigned one, unsigned other) {
+    uint8_t set[FENSTUBBLE_SET_BYTES];
+    memset(set, without ? 255 : 0, sizeof set);
+    set[one / 8] ^= (uint8_t)(1 << one % 8);
+    if (other != one)
+        set[other / 8] ^= (uint8_t)(1 << other % 8);
+    return fenstubble_insert(BOOK, ORDERS, set, sizeof set);
+}
+
+static void requests_refused(void) {
+    static const uint8_t nobody[FENSTUBBLE_SET_BYTES];
+    crowd(FENSTUBBLE_MODE_FULL);
+    expect(fenstubble_join(BOOK, ORDERS) == FENSTUBBLE_USERS_FULL);
+    expect(fenstubble_insert(BOOK, ORDERS, nobody, sizeof nobody) == FENSTUBBLE_EMPTY_LIST);
+    expect(fenstubble_grant(BOOK, ORDERS, 0, 0) == FENSTUBBLE_NO_SUCH);
+    for (int folder = 0; folder < FENSTUBBLE_RESOURCES; folder++)
+        expect(insert(0, 0, 0) == FENSTUBBLE_DONE);
+    expect(insert(0, 0, 0) == FENSTUBBLE_RESOURCES_FULL);
+    expect(fenstubble_grant(BOOK, ORDERS, 0, 0) == FENSTUBBLE_LISTED && fenstubble_revoke(BOOK, ORDERS, 0, 1) == FENSTUBBLE_NOT_LISTED);
+    story(FENSTUBBLE_MODE_DELTA);
+    expect(insert(0, 0, 3) == FENSTUBBLE_NO_SUCH);
+}
+
+/* A pair for each of 256 folders, then a third user for each: every list a group of its own. */
+static void groups_full(void) {
+    unsigned one = 0, other = 1;
+    uint16_t folder, result = FENSTUBBLE_DONE;
+    crowd(FENSTUBBLE_MODE_FULL);
+    for (folder = 0; folder < FENSTUBBLE_RESOURCES; folder++) {
+        expect(insert(0, one, other) == FENSTUBBLE_DONE);
+        if (++other == FENSTUBBLE_USERS - 1) {
+            one++;
+            other = one + 1;
+        }
+    }
+    for (folder = 0; result == FENSTUBBLE_DONE && folder < FENSTUBBLE_RESOURCES; folder++)
+        result = fenstubble_grant(BOOK, ORDERS, folder, FENSTUBBLE_USERS - 1);
+    expect(result == FENSTUBBLE_GROUPS_FULL);
+    expect(book.head[FENSTUBBLE_HEAD_OUTER_VERTICES] == FENSTUBBLE_USERS + FENSTUBBLE_OUTER_GROUPS);
+}
+
+/* A set of all users but one or two has a token from each of its users: 64 of 63 and one of 62 are 4094. */
+static void tokens_full(void) {
+    crowd(FENSTUBBLE_MODE_DELTA);
+    for (unsigned user = 0; user < FENSTUBBLE_USERS; user++)
+        expect(insert(1, user, user) == FENSTUBBLE_DONE);
+    expect(insert(1, 0, 1) == FENSTUBBLE_DONE && book.head[FENSTUBBLE_HEAD_INNER_TOKENS] == 4094);
+    expect(insert(1, 2, 3) == FENSTUBBLE_INNER_TOKENS_FULL);
+
+    crowd(FENSTUBBLE_MODE_DELTA);
+    expect(insert(1, 0, 0) == FENSTUBBLE_DONE && fenstubble_grant(BOOK, ORDERS, 0, 0) == FENSTUBBLE_DONE);
+    for (uint16_t user = 0; user < FENSTUBBLE_USERS; user++)
+        expect(fenstubble_revoke(BOOK, ORDERS, 0, user) == FENSTUBBLE_DONE && fenstubble_grant(BOOK, ORDERS, 0, user) == FENSTUBBLE_DONE);
+    expect(fenstubble_revoke(BOOK, ORDERS, 0, 0) == FENSTUBBLE_DONE && fenstubble_revoke(BOOK, ORDERS, 0, 1) == FENSTUBBLE_DONE);
+    expect(book.head[FENSTUBBLE_HEAD_OUTER_TOKENS] == 4094 && fenstubble_revoke(BOOK, ORDERS, 0, 2) == FENSTUBBLE_OUTER_TOKENS_FULL);
+}
+
+static unsigned at(const uint8_t *bytes, size_t place) { return bytes[place] + 256u * bytes[place + 1]; }
+
+/* The book's bytes: the header's places, then the rows of the tables as they stand there. */
+static void layout(void) {
+    static uint8_t bytes[FENSTUBBLE_BOOK_BYTES];
+    static const size_t widths[] = {FENSTUBBLE_INNER_VERTICES_WIDTH, FENSTUBBLE_INNER_TOKENS_WIDTH, FENSTUBBLE_OUTER_VERTICES_WIDTH,
+                                    FENSTUBBLE_OUTER_TOKENS_WIDTH, FENSTUBBLE_RESOURCES_WIDTH};
+    static const size_t counts[] = {9, 11, 13, 15, 7};
+    size_t length, start, size, next = FENSTUBBLE_BOOK_HEADER;
+    story(FENSTUBBLE_MODE_DELTA);
+    expect(fenstubble_revoke(BOOK, ORDERS, 0, 0) == FENSTUBBLE_DONE);
+    expect(fenstubble_write(BOOK, bytes, sizeof bytes, &length) == FENSTUBBLE_DONE);
+    expect(memcmp(bytes, "TKB\1\0\1\3", 7) == 0 && at(bytes, 7) == book.head[FENSTUBBLE_HEAD_RESOURCES]);
+    for (int place = FENSTUBBLE_HEAD_INNER_VERTICES; place <= FENSTUBBLE_HEAD_OUTER_TOKENS; place++)
+        expect(at(bytes, 3 + 2 * (size_t)place) == book.head[place]);
+    for (size_t k = 0; k < 5; k++) {
+        expect(fenstubble_section(bytes, length, k, &start, &size) == FENSTUBBLE_DONE && start == next);
+        expect(size == at(bytes, counts[k]) * widths[k] && memcmp(bytes + start, book.table[k], size) == 0);
+        next = start + size;
+    }
+    expect(next == length && fenstubble_section(bytes, length, 5, &start, &size) == FENSTUBBLE_NO_SUCH);
+    /* user 1's own inner vertex; the inner token from user 1; the folder's list, inner and outer vertex */
+    expect(book.table[0][8] == 1 << 1 && at(book.table[1], 5) == 1 && at(book.table[1], 7) == 3 && book.table[1][9] == FENSTUBBLE_TOKEN_DERIVATION);
+    expect(book.table[4][0] == 1 << 1 && at(book.table[4], 8) == 3 && at(book.table[4], 10) == 1);
+    expect(fenstubble_grant(BOOK, ORDERS, 0, 0) == FENSTUBBLE_DONE && count == 1 && orders[2] == FENSTUBBLE_NO_OUTER);
+    expect(at(book.table[4], 10) == FENSTUBBLE_NO_OUTER);
+}
+
+/* The kinds of requests that are served together, and their answers. */
+static void served(void) {
+    static const uint64_t requests[][FENSTUBBLE_REQUEST_WIDTH] = {{FENSTUBBLE_REQUEST_JOIN, 7, 7},
+                                                                  {FENSTUBBLE_REQUEST_JOIN, 0, 0},
+                                                                  {FENSTUBBLE_REQUEST_INSERT, 3, 0},
+                                                                  {FENSTUBBLE_REQUEST_INSERT, 3, 1},
+                                                                  {FENSTUBBLE_REQUEST_OPEN, 1, 0},
+                                                                  {FENSTUBBLE_REQUEST_REVOKE, 0, 1},
+                                                                  {FENSTUBBLE_REQUEST_OPEN, 1, 0},
+                                                                  {FENSTUBBLE_REQUEST_OPEN, 0, 0},
+                                                                  {FENSTUBBLE_REQUEST_GRANT, 0, 1},
+                                                                  {FENSTUBBLE_REQUEST_GRANT, 0, 65536},
+                                                                  {5, 0, 0}};
+    static const uint16_t want[][FENSTUBBLE_ANSWER_WIDTH] = {{0, 0, 2},
+                                                             {0, 0, 2},
+                                                             {0, 0, 4},
+                                                             {FENSTUBBLE_NO_SUCH, 0, 0},
+                                                             {0, 0, 1},
+                                                             {0, 0, 1},
+                                                             {FENSTUBBLE_CLOSED, FENSTUBBLE_VIEW_OUTER_LOCKED, 0},
+                                                             {0, 0, 1},
+                                                             {0, 0, 1},
+                                                             {FENSTUBBLE_NO_SUCH, 0, 0},
+                                                             {FENSTUBBLE_NO_SUCH, 0, 0}};
+    enum { LEN = sizeof want / sizeof want[0][0] };
+    uint16_t answers[LEN];
+    size_t used = 9;
+    begin(FENSTUBBLE_MODE_DELTA);
+    expect(fenstubble_serve(BOOK, requests[0], LEN, answers, LEN - 1, orders, FENSTUBBLE_ORDERS_LEN, &used) == FENSTUBBLE_SHORT_LIST && used == 9);
+    expect(fenstubble_serve(BOOK, requests[0], LEN, answers, LEN, orders, FENSTUBBLE_ORDERS_LEN, &used) == FENSTUBBLE_DONE && used == 12);
+    expect(memcmp(answers, want, sizeof want) == 0);
+    expect(orders[8 * 3] == FENSTUBBLE_ROW_INNER && orders[8 * 3 + 1] == 1 && orders[8 * 3 + 2] == 0);
+
+    /* in mode full the outer chain comes too */
+    static const uint64_t opens[] = {FENSTUBBLE_REQUEST_OPEN, 1, 0};
+    static const uint16_t chains[] = {FENSTUBBLE_ROW_INNER, 1, 0, FENSTUBBLE_ROW_OUTER, 1, 0};
+    story(FENSTUBBLE_MODE_FULL);
+    expect(fenstubble_serve(BOOK, opens, 3, answers, 3, orders, FENSTUBBLE_ORDERS_LEN, &used) == FENSTUBBLE_DONE && used == 2);
+    expect(memcmp(orders, chains, sizeof chains) == 0);
+}
+
+/* ---- stack: each call on a stack of its own, painted before */
+
+static uint8_t stack[4 * FENSTUBBLE_STACK_BYTES];
+static ucontext_t here, there;
+static size_t needed; /* by the call at hand */
+
+/* A call, and how far below the place where it was made its stack was used. */
+#define CALL(call)                                                                                                                                   \
+    do {                                                                                                                                             \
+        const uint8_t *top, *low = stack;                                                                                                            \
+        __asm__ volatile("mov %%rsp, %0" : "=r"(top));                                                                                               \
+        for (uint8_t *p = stack; p < top - 256; p++)                                                                                                 \
+            *p = 0xC7;                                                                                                                               \
+        expect((call) == FENSTUBBLE_DONE);                                                                                                           \
+        while (*low == 0xC7)                                                                                                                         \
+            low++;                                                                                                                                   \
+        needed = (size_t)(top - low);                                                                                                                \
+        expect(needed > 4096 && needed <= FENSTUBBLE_STACK_BYTES);                                                                                   \
+    } while (0)
+
+static void every_call(void) {
+    static uint8_t bytes[FENSTUBBLE_BOOK_BYTES];
+    static const uint64_t requests[] = {FENSTUBBLE_REQUEST_OPEN, 1, 0, FENSTUBBLE_REQUEST_GRANT, 0, 2};
+    static const uint8_t set[FENSTUBBLE_SET_BYTES] = {7};
+    static uint16_t rows[FENSTUBBLE_OPEN_ROWS], inner, outer, view, answers[6];
+    static size_t start, length, used;
+    CALL(fenstubble_check(BOOK));
+    CALL(fenstubble_write(BOOK, bytes, sizeof bytes, &length));
+    CALL(fenstubble_section(bytes, length, 4, &start, &used));
+    CALL(fenstubble_read(bytes, length, BOOK));
+    CALL(fenstubble_join(BOOK, ORDERS));
+    CALL(fenstubble_insert(BOOK, ORDERS, set, sizeof set));
+    CALL(fenstubble_grant(BOOK, ORDERS, 0, 2));
+    CALL(fenstubble_revoke(BOOK, ORDERS, 0, 2));
+    CALL(fenstubble_view(BOOK, 1, 0, &view));
+    CALL(fenstubble_open(BOOK, 1, 0, rows, FENSTUBBLE_OPEN_ROWS, &inner, &outer));
+    CALL(fenstubble_serve(BOOK, requests, 6, answers, 6, orders, FENSTUBBLE_ORDERS_LEN, &used));
+}
+
+static void stacks(void) {
+    story(FENSTUBBLE_MODE_DELTA);
+    expect(getcontext(&there) == 0);
+    there.uc_stack.ss_sp = stack;
+    there.uc_stack.ss_size = sizeof stack;
+    there.uc_link = &here;
+    makecontext(&there, every_call, 0);
+    expect(swapcontext(&here, &there) == 0);
+}
+
+int main(void) {
+    versions();
+    reasons();
+    lengths();
+    nulls();
+    numbers();
+    requests_refused();
+    groups_full();
+    tokens_full();
+    layout();
+    served();
+    stacks();
+    return 0;
+}
