@@ -1,12 +1,15 @@
 // The request program: request lines from standard input, their answers to standard output. Its memory is fixed.
 // The five tables are iv, it, ov, ot, rs: inner vertices and tokens, outer vertices and tokens, resources.
 mod block;
+mod hint;
 mod input;
 mod memory;
 mod output;
 
 use block::read_block;
 use block::serve_block;
+use hint::hint_in;
+use hint::tell;
 use input::Unread;
 use input::read_first;
 use input::read_more;
@@ -237,15 +240,16 @@ fn answer_all(
 
 fn main() {
     let mut input = memory::input_bytes();
-    let unread = read_first(&mut input);
-    if unread.failed {
+    let whole = read_first(&mut input);
+    if whole.failed {
         return;
     }
-    let t = take_mode(&input, unread);
+    let t = take_mode(&input, whole);
     let first = t.first;
     let unread = t.unread;
     let First::Of(mode) = first else {
         refuse_start();
+        tell(hint_in(&input, whole));
         return;
     };
     let mut iv = memory::inner_vertices();

@@ -37,6 +37,15 @@ enum-told c = search needs
 refuse-start-requires : tie.Need-refuse-start-requires
 refuse-start-requires c κs = search needs
 
+slice-aggregate-hint-in : tie.Need-slice-aggregate-hint-in
+slice-aggregate-hint-in c = search needs
+
+hint-in-requires : tie.Need-hint-in-requires
+hint-in-requires c κs = search needs
+
+tell-requires : tie.Need-tell-requires
+tell-requires c κs = search needs
+
 returns-2 : tie.Need-returns-2
 returns-2 c = search needs
 
@@ -110,6 +119,9 @@ main-spec =
     enum-known-first
     enum-told
     refuse-start-requires
+    slice-aggregate-hint-in
+    hint-in-requires
+    tell-requires
     returns-2
     inner-vertices-requires
     inner-tokens-requires
