@@ -1,7 +1,7 @@
-//! Keeps a small book in memory through the C interface: three people, two
-//! folders, a grant, a revoke; then to a file and back.
+//! Keeps a small book in memory through the C interface, fenstubble.h: three
+//! people, two folders, a grant, a revoke; then to a file and back.
 //!
-//!     rustc --edition 2021 -L target/staticlib examples/keep.rs && ./keep book.tkb
+//!     rustc --edition 2021 -L PREFIX/lib keep.rs && ./keep book.tkb
 //!
 //! The engine decides, the host obeys. This host has no keys and no ciphers:
 //! it says each order in words. It ends with status 1 if a call answers
@@ -11,13 +11,14 @@ use std::path::Path;
 use std::process::ExitCode;
 use std::{env, fs};
 
-/// Declares calls of include/fenstubble.h: all but `section` have the head
-/// and the five tables among their arguments, each as pointer and length.
+/// Declares calls of fenstubble.h: all but `version` and `section` have the
+/// head and the five tables among their arguments, each as pointer and length.
 /// What the header lends as `const` is a `*mut` here; the call only reads it.
 macro_rules! calls {
     ($(fn $name:ident($($before:ident: $b:ty),*; head, tables; $($after:ident: $a:ty),*);)*) => {
-        #[link(name = "host", kind = "static")]
+        #[link(name = "fenstubble")]
         extern "C" {
+            fn fenstubble_version() -> u32;
             $(fn $name(
                 $($before: $b,)*
                 head: *mut u16, head_len: usize,
@@ -37,25 +38,39 @@ calls! {
     fn fenstubble_read(book: *const u8, book_len: usize; head, tables;);
     fn fenstubble_write(; head, tables; buffer: *mut u8, buffer_len: usize, length: *mut usize);
     fn fenstubble_join(; head, tables; orders: *mut u16, orders_len: usize, count: *mut u16);
-    fn fenstubble_insert(; head, tables; orders: *mut u16, orders_len: usize, count: *mut u16, list: u64);
+    fn fenstubble_insert(; head, tables; orders: *mut u16, orders_len: usize, count: *mut u16, list: *const u8, list_len: usize);
     fn fenstubble_grant(; head, tables; orders: *mut u16, orders_len: usize, count: *mut u16, resource: u16, user: u16);
     fn fenstubble_revoke(; head, tables; orders: *mut u16, orders_len: usize, count: *mut u16, resource: u16, user: u16);
     fn fenstubble_open(; head, tables; user: u16, resource: u16, list: *mut u16, list_len: usize, inner: *mut u16, outer: *mut u16);
 }
 
-/// Bytes of the largest book.
-const LARGEST: usize = 46_609;
-/// Order rows: no request gives more.
-const ROWS: usize = 385;
+// The header's numbers, without their FENSTUBBLE_.
+const VERSION: u32 = 10000;
+const HEAD_LEN: usize = 7;
+const INNER_VERTICES_BYTES: usize = 320 * 8;
+const INNER_TOKENS_BYTES: usize = 4096 * 5;
+const OUTER_VERTICES_BYTES: usize = 512 * 8;
+const OUTER_TOKENS_BYTES: usize = 4096 * 4;
+const RESOURCES_BYTES: usize = 256 * 12;
+const SET_BYTES: usize = 8;
+const BOOK_BYTES: usize = 46_609;
+const ORDER_ROWS: usize = 385;
+const OPEN_ROWS: usize = 126;
+const MODE_DELTA: u16 = 1;
+const NO_OUTER: u16 = 65535;
+const NO_SUCH: u16 = 1;
+const NOT_LISTED: u16 = 6;
+const CLOSED: u16 = 11;
+const UNSOUND: u16 = 12;
 
 /// A book: a head and five tables, all of them ours.
 struct Book {
-    head: [u16; 7],
-    inner_vertices: [u8; 320 * 8],
-    inner_tokens: [u8; 4096 * 5],
-    outer_vertices: [u8; 512 * 8],
-    outer_tokens: [u8; 4096 * 4],
-    resources: [u8; 256 * 12],
+    head: [u16; HEAD_LEN],
+    inner_vertices: [u8; INNER_VERTICES_BYTES],
+    inner_tokens: [u8; INNER_TOKENS_BYTES],
+    outer_vertices: [u8; OUTER_VERTICES_BYTES],
+    outer_tokens: [u8; OUTER_TOKENS_BYTES],
+    resources: [u8; RESOURCES_BYTES],
 }
 
 /// Makes a call with a book's head and tables in their place.
@@ -84,7 +99,8 @@ macro_rules! call {
 struct No(u16);
 
 /// The rows of an accepted request, to be obeyed in their order. A host with
-/// real keys stores these with the new book before it begins to obey.
+/// real keys keeps them together with the new book, in one step, before it
+/// begins to obey: keep.c says it at length.
 type Orders = Vec<[u16; 3]>;
 
 fn done<T>(result: u16, given: T) -> Result<T, No> {
@@ -97,7 +113,7 @@ fn done<T>(result: u16, given: T) -> Result<T, No> {
 
 /// Lends an order list to a request and takes the rows it was given.
 fn ordered(request: impl FnOnce(*mut u16, usize, *mut u16) -> u16) -> Result<Orders, No> {
-    let (mut list, mut count) = ([0; ROWS * 3], 0);
+    let (mut list, mut count) = ([0; ORDER_ROWS * 3], 0);
     let result = request(list.as_mut_ptr(), list.len(), &mut count);
     let rows = list.chunks_exact(3).take(usize::from(count));
     done(result, rows.map(|row| [row[0], row[1], row[2]]).collect())
@@ -108,12 +124,12 @@ impl Book {
     /// looked at.
     fn empty_delta(unused: u8) -> Book {
         Book {
-            head: [1, 0, 0, 0, 0, 0, 0],
-            inner_vertices: [unused; 320 * 8],
-            inner_tokens: [unused; 4096 * 5],
-            outer_vertices: [unused; 512 * 8],
-            outer_tokens: [unused; 4096 * 4],
-            resources: [unused; 256 * 12],
+            head: [MODE_DELTA, 0, 0, 0, 0, 0, 0],
+            inner_vertices: [unused; INNER_VERTICES_BYTES],
+            inner_tokens: [unused; INNER_TOKENS_BYTES],
+            outer_vertices: [unused; OUTER_VERTICES_BYTES],
+            outer_tokens: [unused; OUTER_TOKENS_BYTES],
+            resources: [unused; RESOURCES_BYTES],
         }
     }
 
@@ -125,9 +141,13 @@ impl Book {
         ordered(|rows, len, count| call!(fenstubble_join(; self; rows, len, count)))
     }
 
-    /// A list of people is a set of bits: bit i for person i.
-    fn insert(&mut self, list: u64) -> Result<Orders, No> {
-        ordered(|rows, len, count| call!(fenstubble_insert(; self; rows, len, count, list)))
+    /// A set of people is bytes: bit i % 8 of byte i / 8 for person i.
+    fn insert(&mut self, people: &[usize]) -> Result<Orders, No> {
+        let mut list = [0; SET_BYTES];
+        people.iter().for_each(|i| list[i / 8] |= 1 << (i % 8));
+        ordered(
+            |rows, len, count| call!(fenstubble_insert(; self; rows, len, count, list.as_ptr(), list.len())),
+        )
     }
 
     fn grant(&mut self, resource: u16, user: u16) -> Result<Orders, No> {
@@ -144,8 +164,7 @@ impl Book {
 
     /// The token rows of the inner chain, then those of the outer.
     fn open(&mut self, user: u16, resource: u16) -> Result<(Vec<u16>, Vec<u16>), No> {
-        // A chain has at most 63 tokens.
-        let (mut list, mut inner, mut outer) = ([0; 126], 0, 0);
+        let (mut list, mut inner, mut outer) = ([0; OPEN_ROWS], 0, 0);
         let result = call!(fenstubble_open(; self; user, resource, list.as_mut_ptr(), list.len(), &mut inner, &mut outer));
         let (inner, outer) = (usize::from(inner), usize::from(outer));
         done(
@@ -155,7 +174,7 @@ impl Book {
     }
 
     fn write(&mut self) -> Result<Vec<u8>, No> {
-        let (mut buffer, mut length) = (vec![0; LARGEST], 0);
+        let (mut buffer, mut length) = (vec![0; BOOK_BYTES], 0);
         let result =
             call!(fenstubble_write(; self; buffer.as_mut_ptr(), buffer.len(), &mut length));
         buffer.truncate(length);
@@ -175,7 +194,7 @@ fn obey(order: [u16; 3]) -> Result<(), String> {
     match order {
         [1, v, _] => println!("  make outer key {v}"),
         [2, from, to] => println!("  publish outer token {from} -> {to}"),
-        [3, r, 65535] => println!("  take the outer lock off folder {r}"),
+        [3, r, NO_OUTER] => println!("  take the outer lock off folder {r}"),
         [3, r, v] => println!("  re-lock folder {r} with outer key {v}"),
         [4, v, _] => println!("  make inner key {v}"),
         [5, from, to] => println!("  publish inner token {from} -> {to}"),
@@ -213,7 +232,7 @@ fn open(book: &mut Book, user: u16, resource: u16, closed: Option<u16>) -> Resul
                 .for_each(|row| println!("  follow outer token row {row}"));
             println!("  open");
         }
-        (Err(no), Some(view @ 1..=3)) if no == No(11 + 256 * view) => {
+        (Err(no), Some(view @ 1..=3)) if no == No(CLOSED + 256 * view) => {
             println!(
                 "  closed by {}",
                 ["the outer lock", "the inner lock", "both locks"][usize::from(view) - 1]
@@ -229,6 +248,11 @@ fn expect(met: bool, what: &str) -> Result<(), String> {
 }
 
 fn keep(file: &Path) -> Result<(), String> {
+    // SAFETY: it is lent nothing.
+    let version = unsafe { fenstubble_version() };
+    let fits = version / 10000 == VERSION / 10000 && version >= VERSION;
+    expect(fits, "a library that fits")?;
+
     let mut book = Book::empty_delta(0);
     expect(book.check().is_ok(), "an empty book that is sound")?;
     println!("an empty delta book");
@@ -239,9 +263,9 @@ fn keep(file: &Path) -> Result<(), String> {
     }
 
     println!("insert folder 0 for persons 0 and 1");
-    accepted(book.insert(1 << 0 | 1 << 1))?;
+    accepted(book.insert(&[0, 1]))?;
     println!("insert folder 1 for persons 0 and 1");
-    accepted(book.insert(1 << 0 | 1 << 1))?;
+    accepted(book.insert(&[0, 1]))?;
 
     // Both folders have the same inner key: the new reader of one must be
     // kept out of the other.
@@ -256,9 +280,9 @@ fn keep(file: &Path) -> Result<(), String> {
     open(&mut book, 0, 0, None)?;
 
     println!("revoke folder 0 from person 1 again");
-    refused(book.revoke(0, 1), 6)?;
+    refused(book.revoke(0, 1), NOT_LISTED)?;
     println!("grant folder 0 to person 9");
-    refused(book.grant(0, 9), 1)?;
+    refused(book.grant(0, 9), NO_SUCH)?;
 
     // To a file, and back into tables that know nothing of it.
     let bytes = book.write().map_err(|_| "a book that can be written")?;
@@ -278,10 +302,10 @@ fn keep(file: &Path) -> Result<(), String> {
     // Nothing that is not a sound book is taken for one.
     back[bytes.len() - 4] ^= 1;
     expect(
-        again.read(&back) == Err(No(12)),
+        again.read(&back) == Err(No(UNSOUND)),
         "a damaged book that is refused",
     )?;
-    println!("read it with one bit changed\n  refused: 12");
+    println!("read it with one bit changed\n  refused: {UNSOUND}");
 
     println!("all as expected");
     Ok(())

@@ -6,8 +6,10 @@ use mathlib.Core.Bool.{Bool, true, false, cond}
 use mathlib.Core.List.{List}
 use lib.Dec.{ltb}
 use lib.ListN.{length}
+use Rattle.rows.specs.Number.{cell}
+use Rattle.sets.specs.Words.{bytes}
 use Rattle.rules.specs.Bytes.{Tables}
-use Rattle.rules.specs.Refusals.{Request}
+use Rattle.rules.specs.Refusals.{Request, inserts}
 use Rattle.rules.specs.Calls.{Change, change, viewCall, Shown, openCall, sectionCall, Load, readCall, Write, writeCall, Service, serveCall}
 use Rattle.rules.specs.declared.Changed.{Changed}
 use Rattle.rules.specs.declared.Changed.the-variants as changed
@@ -22,14 +24,14 @@ use Rattle.rules.specs.declared.Loaded.the-variants as loaded
 use Rattle.rules.specs.declared.Stored.{Stored}
 use Rattle.rules.specs.declared.Stored.the-variants as written
 use Rattle.theorems.proofs.RefusedLaws.{change-refused, serve-refused, read-refused, open-refused, write-refused}
-use Rattle.host.specs.Answers.{headLength, headFrom, answered, stretchBy, sectionAnswer, Loads, loadedAs, readBy, readAnswer, Writes, writtenAs, writeBy, writeAnswer, Changes, changedAs, changeTold, changeBy, changeAnswer, Views, viewedAs, viewAs, viewAnswer, Opens, openedAs, openBy, openAnswer, Serves, servedAs, serveTold, serveBy, serveAnswer}
+use Rattle.host.specs.Answers.{headLength, headFrom, answered, stretchBy, sectionAnswer, Loads, loadedAs, readBy, readAnswer, Writes, writtenAs, writeBy, writeAnswer, Changes, changedAs, changeTold, changeBy, changeAnswer, insertAnswer, Views, viewedAs, viewAs, viewAnswer, Opens, openedAs, openBy, openAnswer, Serves, servedAs, serveTold, serveBy, serveAnswer}
 
 -- answers X with their result; `lent k` is what was lent, with the result k
 module _ {X : Type 0} (result : X → ℕ) (lent : ℕ → X) where
   abbrev Left : X → Type 0
   Left x = (result x ≡ 0 → ⊥) → x ≡ lent (result x)
 
-  -- a short head, or the call itself
+  -- a short head or a short list, or the call itself
   left-short : ((k : ℕ) → result (lent k) ≡ k) → (z : Bool) (x : X) → Left x → Left (cond z (lent 13) x)
   left-short back true x f ne = sym (ap lent (back 13))
   left-short back false x f ne = f ne
@@ -51,6 +53,15 @@ c-change-refused q l t list n =
     go (changed.Done h k) e ne = absurd (ne (ap (λ (a : Changed). changeTold a l n .result) e))
     go (changed.No r) e ne =
         left-by (λ (x : Changes). x .told .result) (λ k. changedAs k l t list n) (λ (x : Change). changeBy x l n) (change-refused q (headFrom l) t list r e) refl
+
+pub c-insert-refused : (bs l : List ℕ) (t : Tables) (list : List ℕ) (n : ℕ)
+    → let a = insertAnswer bs l t list n in (a .told .result ≡ 0 → ⊥) → a ≡ changedAs (a .told .result) l t list n
+unfolding insertAnswer
+c-insert-refused bs l t list n =
+    left-short (λ (x : Changes). x .told .result) (λ k. changedAs k l t list n) (λ k. refl) (ltb (length bs) bytes) (changeAnswer q l t list n) (c-change-refused q l t list n)
+  where
+    q : Request
+    q = inserts (cell bytes 0 bs)
 
 pub c-serve-refused : (requests l : List ℕ) (t : Tables) (answers list : List ℕ) (n : ℕ)
     → let a = serveAnswer requests l t answers list n in (a .told .result ≡ 0 → ⊥) → a ≡ servedAs (a .told .result) l t answers list n

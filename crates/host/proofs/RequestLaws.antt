@@ -6,7 +6,8 @@ use mathlib.Core.List.{List}
 use native.Mathlib.Omega.{arith}
 use lib.ListN.{length}
 use borrow.Author.Tests.{lt-ltb, le-ltb}
-use Rattle.rows.specs.Number.{stored}
+use Rattle.rows.specs.Number.{cell, stored}
+use Rattle.sets.specs.Words.{bytes}
 use Rattle.rules.specs.Bytes.{Tables}
 use Rattle.rules.specs.Refusals.{number, viewNumber, viewTold, Request, inserts}
 use Rattle.rules.specs.Calls.{Change, changing, change, viewCall, Shown, showing, openCall, Service, serving, serveCall}
@@ -23,7 +24,7 @@ use Rattle.rules.specs.declared.Opened.{Opened}
 use Rattle.rules.specs.declared.Opened.the-variants as opened
 use Rattle.rules.specs.declared.Served.{Served}
 use Rattle.rules.specs.declared.Served.the-variants as served
-use Rattle.host.specs.Answers.{headLength, headFrom, headNumbers, resultOf, Told, toldAs, changeTold, Changes, changedAs, changeBy, changeAnswer, viewedAs, viewAs, viewAnswer, openedAs, openBy, openAnswer, serveTold, servedAs, serveBy, serveAnswer}
+use Rattle.host.specs.Answers.{headLength, headFrom, headNumbers, resultOf, Told, toldAs, changeTold, Changes, changedAs, changeBy, changeAnswer, insertAnswer, viewedAs, viewAs, viewAnswer, openedAs, openBy, openAnswer, serveTold, servedAs, serveBy, serveAnswer}
 
 -- ---- a refusal's number
 
@@ -77,10 +78,15 @@ change-told q l t list k {u = u} {rows = rows} n eh p e =
     (ap (λ (x : Told). changedAs (x .result) (x .head) u rows (x .count)) e
     ∙ ap (λ (x : Change). changeBy x l k) (p ∙ ap (λ (x : Head). change q x t list) eh))
 
--- an insert of a set that is l
-pub insert-of : (l : List ℕ) (t : Tables) (list : List ℕ) (k : ℕ) {a : Changes} {m n : ℕ} → a ≡ changeAnswer (inserts m) l t list k → m ≡ n
-    → a ≡ changeAnswer (inserts n) l t list k
-insert-of l t list k e f = e ∙ ap (λ (x : ℕ). changeAnswer (inserts x) l t list k) f
+pub insert-short : (bs l : List ℕ) (t : Tables) (list : List ℕ) (k : ℕ) → length bs < bytes → changedAs 13 l t list k ≡ insertAnswer bs l t list k
+unfolding insertAnswer
+insert-short bs l t list k n = rw (lt-ltb (length bs) bytes n)
+
+-- an insert of the set m in the bytes
+pub insert-told : (bs l : List ℕ) (t : Tables) (list : List ℕ) (k : ℕ) {a : Changes} {m : ℕ} → bytes ≤ length bs → m ≡ cell bytes 0 bs
+    → a ≡ changeAnswer (inserts m) l t list k → a ≡ insertAnswer bs l t list k
+unfolding insertAnswer
+insert-told bs l t list k n em e = rw (le-ltb (length bs) bytes n) (e ∙ ap (λ (x : ℕ). changeAnswer (inserts x) l t list k) em)
 
 -- ---- view
 

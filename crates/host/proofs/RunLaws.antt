@@ -2,12 +2,14 @@
 -- Assumes nothing.
 use Prim.Native.Nat.{ℕ, _≤_, _<_}
 use mathlib.Core.Path.{_≡_, refl, ap, _∙_}
-use mathlib.Core.Bool.{true}
+use mathlib.Core.Bool.{Bool, true, false, cond}
 use mathlib.Core.List.{List, [], _∷_}
 use native.Mathlib.Omega.{arith}
+use lib.Dec.{ltb}
 use lib.ListN.{length, drop, length-drop}
 use borrow.Author.Tests.{lt-ltb, le-ltb}
-use Rattle.rows.specs.Number.{stored}
+use Rattle.rows.specs.Number.{cell, stored}
+use Rattle.sets.specs.Words.{bytes}
 use Rattle.rules.specs.Sound.{sound}
 use Rattle.rules.specs.Bytes.{Tables}
 use Rattle.rules.specs.Refusals.{Request, joins, inserts, grants, revokes}
@@ -22,7 +24,7 @@ use Rattle.rules.specs.declared.Loaded.{Loaded}
 use Rattle.rules.specs.declared.Loaded.the-variants as loaded
 use Rattle.theorems.proofs.ServeLaws.{run-append}
 use Rattle.theorems.proofs.Demand.{Demand, demand-3}
-use Rattle.host.specs.Answers.{headLength, headFrom, headNumbers, readBy, readAnswer, changeTold, changeBy, changeAnswer, serveTold, serveBy, serveAnswer}
+use Rattle.host.specs.Answers.{headLength, headFrom, headNumbers, readBy, readAnswer, changeTold, changeBy, changedAs, changeAnswer, insertAnswer, serveTold, serveBy, serveAnswer}
 use Rattle.host.specs.CRuns.{Held, hold, keptIn, bookHeld, CCall, c-check, c-section, c-read, c-write, c-join, c-insert, c-grant, c-revoke, c-view, c-open, c-serve, leftByChange, leftByRead, leftByServe, afterC, runC, called, calledAll}
 
 -- ---- what is left of a head's numbers
@@ -60,6 +62,18 @@ module _ (s : Held) (n : headLength ≤ length (s .numbers)) where
       go (changed.Done h k) = leaves-stored s h (c .tables) n
       go (changed.No r) = leaves-head s (c .tables)
 
+  -- its list has too few bytes, or it is a change
+  insert-leaves : (bs list : List ℕ) (m : ℕ)
+      → Leaves s (run (called (c-insert list m bs)) (keptIn s)) (leftByChange (insertAnswer bs (s .numbers) (s .tables) list m))
+  unfolding run called leftByChange insertAnswer
+  insert-leaves bs list m = go (ltb (length bs) bytes)
+    where
+      go : (z : Bool)
+          → let a = changeAnswer (inserts (cell bytes 0 bs)) (s .numbers) (s .tables) list m in
+          Leaves s (run (cond z [] (to-change (inserts (cell bytes 0 bs)) list ∷ [])) (keptIn s)) (leftByChange (cond z (changedAs 13 (s .numbers) (s .tables) list m) a))
+      go true = leaves-head s (s .tables)
+      go false = change-leaves (inserts (cell bytes 0 bs)) list m
+
   serve-leaves : (requests answers list : List ℕ) (m : ℕ)
       → Leaves s (after (to-serve requests answers list) (keptIn s)) (leftByServe (serveAnswer requests (s .numbers) (s .tables) answers list m))
   unfolding after headServed leftByServe serveAnswer serveBy serveTold
@@ -87,7 +101,7 @@ module _ (s : Held) (n : headLength ≤ length (s .numbers)) where
   pub c-call : (c : CCall) → Leaves s (run (called c) (keptIn s)) (afterC c s)
   unfolding run called afterC after
   c-call (c-join list m) = change-leaves joins list m
-  c-call (c-insert list m l) = change-leaves (inserts l) list m
+  c-call (c-insert list m bs) = insert-leaves bs list m
   c-call (c-grant list m r u) = change-leaves (grants r u) list m
   c-call (c-revoke list m r u) = change-leaves (revokes r u) list m
   c-call (c-serve requests answers list m) = serve-leaves requests answers list m
@@ -100,9 +114,13 @@ module _ (s : Held) (n : headLength ≤ length (s .numbers)) where
 
 -- a shorter head: nothing changes
 pub c-short : (c : CCall) (s : Held) → length (s .numbers) < headLength → afterC c s ≡ s
-unfolding afterC leftByChange leftByServe leftByRead changeAnswer serveAnswer readAnswer
+unfolding afterC leftByChange leftByServe leftByRead changeAnswer insertAnswer serveAnswer readAnswer
 c-short (c-join list m) s n = rw (lt-ltb (length (s .numbers)) headLength n)
-c-short (c-insert list m l) s n = rw (lt-ltb (length (s .numbers)) headLength n)
+c-short (c-insert list m bs) s n = rw (lt-ltb (length (s .numbers)) headLength n) (go (ltb (length bs) bytes))
+  where
+    go : (z : Bool) → leftByChange (cond z (changedAs 13 (s .numbers) (s .tables) list m) (changedAs 13 (s .numbers) (s .tables) list m)) ≡ s
+    go true = refl
+    go false = refl
 c-short (c-grant list m r u) s n = rw (lt-ltb (length (s .numbers)) headLength n)
 c-short (c-revoke list m r u) s n = rw (lt-ltb (length (s .numbers)) headLength n)
 c-short (c-serve requests answers list m) s n = rw (lt-ltb (length (s .numbers)) headLength n)

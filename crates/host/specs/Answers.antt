@@ -7,9 +7,10 @@ use mathlib.Core.List.{List, [], _∷_}
 use mathlib.Core.Option.{Option, some, none}
 use lib.Dec.{ltb}
 use lib.ListN.{length, getD}
-use Rattle.rows.specs.Number.{stored}
+use Rattle.rows.specs.Number.{cell, stored}
+use Rattle.sets.specs.Words.{bytes}
 use Rattle.rules.specs.Bytes.{Tables, bookIn, head, headIn, start}
-use Rattle.rules.specs.Refusals.{number, viewNumber, viewTold, common, verdict, Request}
+use Rattle.rules.specs.Refusals.{number, viewNumber, viewTold, common, verdict, Request, inserts}
 use Rattle.rules.specs.Calls.{sectionCall, readCall, writeCall, Change, change, viewCall, openCall, Service, serveCall}
 use Rattle.rules.specs.declared.Head.{Head}
 use Rattle.rules.specs.declared.Refusal.{Refusal}
@@ -25,6 +26,10 @@ use Rattle.rules.specs.declared.Loaded.{Loaded}
 use Rattle.rules.specs.declared.Loaded.the-variants as loaded
 use Rattle.rules.specs.declared.Stored.{Stored}
 use Rattle.rules.specs.declared.Stored.the-variants as written
+
+-- which version of the interface answers: major * 10000 + minor * 100 + patch, here 1.0.0
+abbrev pub version : ℕ
+version = 10000
 
 -- a head is 7 numbers
 abbrev pub headLength : ℕ
@@ -129,6 +134,10 @@ changeBy c l n = record { told = changeTold (c .answer) l n; tables = c .tables;
 
 unfoldable pub changeAnswer : Request → List ℕ → Tables → List ℕ → ℕ → Changes
 changeAnswer q l t list n = cond (ltb (length l) headLength) (changedAs 13 l t list n) (changeBy (change q (headFrom l) t list) l n)
+
+-- an insert: its list is lent as the bytes of a set in a row; fewer are 13, like a short head, and bytes past them are not looked at
+unfoldable pub insertAnswer : List ℕ → List ℕ → Tables → List ℕ → ℕ → Changes
+insertAnswer bs l t list n = cond (ltb (length bs) bytes) (changedAs 13 l t list n) (changeAnswer (inserts (cell bytes 0 bs)) l t list n)
 
 -- a view, in a cell
 pub record Views : Type 0 where

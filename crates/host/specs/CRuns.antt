@@ -1,12 +1,17 @@
 -- The C calls one after the other on what a C host keeps, refused ones among them, by the definitions that their contracts cite (Answers); and the
 -- call of Rattle.rules.specs.Runs that each of them is. Assumes nothing.
 use Prim.Native.Nat.{ℕ}
+use mathlib.Core.Bool.{cond}
 use mathlib.Core.List.{List, [], _∷_, _++_}
+use lib.Dec.{ltb}
+use lib.ListN.{length}
+use Rattle.rows.specs.Number.{cell}
+use Rattle.sets.specs.Words.{bytes}
 use Rattle.rules.specs.Book.{Book}
 use Rattle.rules.specs.Bytes.{Tables, bookIn}
 use Rattle.rules.specs.Refusals.{joins, inserts, grants, revokes}
 use Rattle.rules.specs.Runs.{Kept, keep, Call, to-change, to-view, to-open, to-serve, to-read, to-write, to-show}
-use Rattle.host.specs.Answers.{headFrom, Loads, readAnswer, Changes, changeAnswer, Serves, serveAnswer}
+use Rattle.host.specs.Answers.{headFrom, Loads, readAnswer, Changes, changeAnswer, insertAnswer, Serves, serveAnswer}
 
 -- what a C host keeps between two calls: the head's numbers and the five tables
 pub record Held : Type 0 where
@@ -31,7 +36,7 @@ pub data CCall : Type 0 where
   c-read : List ℕ → CCall
   c-write : List ℕ → ℕ → CCall
   c-join : List ℕ → ℕ → CCall
-  c-insert : List ℕ → ℕ → ℕ → CCall
+  c-insert : List ℕ → ℕ → List ℕ → CCall
   c-grant : List ℕ → ℕ → ℕ → ℕ → CCall
   c-revoke : List ℕ → ℕ → ℕ → ℕ → CCall
   c-view : ℕ → ℕ → ℕ → CCall
@@ -51,7 +56,7 @@ leftByServe c = hold (c .told .head) (c .tables)
 -- the other calls are lent head and tables to read alone
 unfoldable pub afterC : CCall → Held → Held
 afterC (c-join list n) s = leftByChange (changeAnswer joins (s .numbers) (s .tables) list n)
-afterC (c-insert list n l) s = leftByChange (changeAnswer (inserts l) (s .numbers) (s .tables) list n)
+afterC (c-insert list n bs) s = leftByChange (insertAnswer bs (s .numbers) (s .tables) list n)
 afterC (c-grant list n r u) s = leftByChange (changeAnswer (grants r u) (s .numbers) (s .tables) list n)
 afterC (c-revoke list n r u) s = leftByChange (changeAnswer (revokes r u) (s .numbers) (s .tables) list n)
 afterC (c-serve requests answers list n) s = leftByServe (serveAnswer requests (s .numbers) (s .tables) answers list n)
@@ -68,10 +73,10 @@ runC (c ∷ cs) s = runC cs (afterC c s)
 
 -- ---- as calls of Runs
 
--- fenstubble_check is none of them
+-- fenstubble_check is none of them, nor is an insert whose list has too few bytes
 unfoldable pub called : CCall → List Call
 called (c-join list n) = to-change joins list ∷ []
-called (c-insert list n l) = to-change (inserts l) list ∷ []
+called (c-insert list n bs) = cond (ltb (length bs) bytes) [] (to-change (inserts (cell bytes 0 bs)) list ∷ [])
 called (c-grant list n r u) = to-change (grants r u) list ∷ []
 called (c-revoke list n r u) = to-change (revokes r u) list ∷ []
 called (c-serve requests answers list n) = to-serve requests answers list ∷ []

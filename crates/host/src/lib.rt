@@ -21,7 +21,10 @@ ghost use Prim.Native.Nat.{_≤_};
 ghost use lib.ListN.{length};
 ghost use Rattle.rows.specs.Number.{stored};
 ghost use Rattle.rules.specs.Bytes.{tables};
-ghost use Rattle.host.specs.Answers.{headLength, headFrom, headNumbers, checkAnswer, sectionAnswer, readAnswer, writeAnswer, answered, loadedAs, writtenAs};
+ghost use Rattle.host.specs.Answers.{version, headLength, headFrom, headNumbers, checkAnswer, sectionAnswer, readAnswer, writeAnswer, answered, loadedAs, writtenAs};
+
+// Major * 10000 + minor * 100 + patch.
+pub const VERSION: u32 = 10000;
 
 // The numbers of a head.
 pub const HEAD: usize = 7;
@@ -61,6 +64,13 @@ pub fn put_head(head: &mut [u16], h: Head)
     head[4] = h.inner_tokens.0;
     head[5] = h.outer_vertices.0;
     head[6] = h.outer_tokens.0;
+}
+
+#[no_mangle]
+pub extern "C" fn fenstubble_version() -> u32
+    ensures { λ r. ⌜ r ≡ version ⌝ }
+{
+    VERSION
 }
 
 #[no_mangle]

@@ -24,9 +24,9 @@ ghost use mathlib.Core.Path.{_≡_};
 ghost use Prim.Native.Nat.{_≤_};
 ghost use lib.ListN.{length};
 ghost use Rattle.rules.specs.Bytes.{tables};
-ghost use Rattle.rules.specs.Refusals.{joins, inserts, grants, revokes};
+ghost use Rattle.rules.specs.Refusals.{joins, grants, revokes};
 ghost use Rattle.plan.specs.Judge.{requestOf};
-ghost use Rattle.host.specs.Answers.{headLength, resultOf, toldAs, changeTold, changedAs, changeAnswer, viewedAs, viewAnswer, openedAs, openAnswer, serveTold, servedAs, serveAnswer};
+ghost use Rattle.host.specs.Answers.{headLength, resultOf, toldAs, changeTold, changedAs, changeAnswer, insertAnswer, viewedAs, viewAnswer, openedAs, openAnswer, serveTold, servedAs, serveAnswer};
 
 // The number of a refusal; with 11 also the view.
 fn result_of(n: Refusal) -> u16
@@ -87,6 +87,7 @@ pub extern "C" fn fenstubble_join(
     changed(head, iv, it, ov, ot, rs, orders, count, Request::Join)
 }
 
+// The list is lent as the bytes of a set in a row; bytes past them are not looked at.
 #[no_mangle]
 pub extern "C" fn fenstubble_insert(
     head: &mut [u16],
@@ -97,21 +98,15 @@ pub extern "C" fn fenstubble_insert(
     rs: &mut [u8],
     orders: &mut [u16],
     count: &mut u16,
-    l: u64,
+    list: &[u8],
 ) -> u16
-    ensures { λ k. ⌜ changedAs k (now (head .exit)) (tables (now (iv .exit)) (now (it .exit)) (now (ov .exit)) (now (ot .exit)) (now (rs .exit))) (now (orders .exit)) (now (count .exit)) ≡ changeAnswer (inserts l) (now (head .entry)) (tables (now (iv .entry)) (now (it .entry)) (now (ov .entry)) (now (ot .entry)) (now (rs .entry))) (now (orders .entry)) (now (count .entry)) ⌝ }
+    ensures { λ k. ⌜ changedAs k (now (head .exit)) (tables (now (iv .exit)) (now (it .exit)) (now (ov .exit)) (now (ot .exit)) (now (rs .exit))) (now (orders .exit)) (now (count .exit)) ≡ insertAnswer (now (list .entry)) (now (head .entry)) (tables (now (iv .entry)) (now (it .entry)) (now (ov .entry)) (now (ot .entry)) (now (rs .entry))) (now (orders .entry)) (now (count .entry)) ⌝ }
 {
-    changed(
-        head,
-        iv,
-        it,
-        ov,
-        ot,
-        rs,
-        orders,
-        count,
-        Request::Insert(Users::of_word(l)),
-    )
+    if list.len() < Users::WIDTH {
+        return 13;
+    }
+    let l = Users::read(list, 0);
+    changed(head, iv, it, ov, ot, rs, orders, count, Request::Insert(l))
 }
 
 #[no_mangle]

@@ -1,11 +1,15 @@
--- `requests::fenstubble_insert` meets its contract: the list is the set of that word. Assumes nothing.
+-- `requests::fenstubble_insert` meets its contract: the list is the set in its bytes. Assumes nothing.
+use native.Mathlib.Omega.{arith}
 use borrow.Author.Needs.{needs}
-use Rattle.host.proofs.RequestLaws.{insert-of}
+use Rattle.host.proofs.RequestLaws.{insert-short, insert-told}
 use Rattle.host.proofs.requests.fenstubble_insert.Statement.{statement}
 use Rattle.host.proofs.requests.fenstubble_insert.Tie as tie
 
-of-word-requires : tie.Need-of-word-requires
-of-word-requires c κs = search needs
+returns : tie.Need-returns
+returns c = insert-short _ _ _ _ _ (omega (arith, c .if1 .taken))
+
+read-requires : tie.Need-read-requires
+read-requires c κs = omega (arith, c .if1 .left)
 
 changed-requires : tie.Need-changed-requires
 changed-requires c κs = search needs
@@ -31,16 +35,18 @@ same-length-6 c = search needs
 same-length-7 : tie.Need-same-length-7
 same-length-7 c = search needs
 
-returns : tie.Need-returns
-returns c =
+returns-2 : tie.Need-returns-2
+returns-2 c =
     let called = c .before .before .before .before .before .before .before .before .before .before .before .before .before .before in
-    insert-of _ _ _ _ (called .changed .ensures) (called .before .of-word .ensures)
+    let found = called .before .before .before .before .before .before .before .before .before in
+    insert-told _ _ _ _ _ (omega (arith, found .before .if1 .left)) (found .read .ensures) (called .changed .ensures)
 
 pub fenstubble-insert-spec : {M : Type 1} → statement M
 fenstubble-insert-spec =
     tie.close
     (tie.spec
-    of-word-requires
+    returns
+    read-requires
     changed-requires
     same-length
     same-length-2
@@ -49,4 +55,4 @@ fenstubble-insert-spec =
     same-length-5
     same-length-6
     same-length-7
-    returns)
+    returns-2)
