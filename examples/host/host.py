@@ -106,6 +106,13 @@ class Locked(NamedTuple):
         folder, inner, outer = said.groups()
         return Locked(int(folder), int(inner), None if outer == b"none" else int(outer), data[said.end() :])
 
+    @staticmethod
+    def from_file(public: Path, folder: int) -> Locked:
+        locked = Locked.from_bytes(folder_path(public, folder).read_bytes())
+        if locked.folder != folder:
+            raise Damaged(f"folder {folder} is not in its place")
+        return locked
+
     def filled(self, key: bytes, content: bytes) -> Locked:
         return self._replace(box=bytes(SecretBox(key).encrypt(self.line() + content)))
 
@@ -115,8 +122,15 @@ class Locked(NamedTuple):
             raise Damaged(f"the box is not that of {self.line().decode().strip()}")
         return found[len(self.line()) :]
 
+    def with_outer(self, outer: int, key: bytes) -> Locked:
+        return Locked(self.folder, self.inner, outer).filled(key, self.box)
+
     def without_outer(self, key: bytes) -> Locked:
         return Locked(self.folder, self.inner, None, self.content(key))
+
+
+def folder_path(public: Path, folder: int) -> Path:
+    return public / "folders" / str(folder)
 
 
 # ---- files
@@ -214,25 +228,21 @@ class Storage:
     def lock(self, folder: int, outer: Optional[int]) -> None:
         """Obeyed again: a folder that has this lock already, or none where none is asked for, stays. The old lock comes off and the new one on in one replace."""
         locked = self.locked(folder)
-        if locked.outer == outer:
-            return
-        if locked.outer is not None:
-            locked = locked.without_outer(self.keys.key(locked.outer))
-        if outer is not None:
-            locked = locked._replace(outer=outer).filled(self.keys.key(outer), locked.box)
-        self.put(locked)
+        bare = locked if locked.outer is None else locked.without_outer(self.keys.key(locked.outer))
+        if locked.outer != outer:
+            self.put(bare if outer is None else bare.with_outer(outer, self.keys.key(outer)))
 
     def has(self, folder: int) -> bool:
         return self.path(folder).exists()
 
     def locked(self, folder: int) -> Locked:
-        return Locked.from_bytes(self.path(folder).read_bytes())
+        return Locked.from_file(self.public, folder)
 
     def put(self, locked: Locked) -> None:
         self.disk.replace(self.path(locked.folder), locked.to_bytes())
 
     def path(self, folder: int) -> Path:
-        return self.public / "folders" / str(folder)
+        return folder_path(self.public, folder)
 
 
 class Owner:
@@ -283,9 +293,7 @@ class Person:
 
     def open(self, folder: int, chain: Chain) -> bytes:
         """The folder's text, by the engine's chain."""
-        locked = Locked.from_bytes((self.public / "folders" / str(folder)).read_bytes())
-        if locked.folder != folder:
-            raise Damaged(f"folder {folder} is not in its place")
+        locked = Locked.from_file(self.public, folder)
         if locked.outer is not None:
             locked = locked.without_outer(self.along("outer", chain.outer))
         key = self.along("inner", chain.inner)
