@@ -23,7 +23,7 @@ from typing import Callable, Iterable, Iterator, NamedTuple, Optional
 from nacl.exceptions import CryptoError
 from nacl.secret import SecretBox
 
-if "FENSTUBBLE_PREFIX" in os.environ:
+if "FENSTUBBLE_PREFIX" in os.environ:  # where ./install put the module
     sys.path.insert(0, os.path.join(os.environ["FENSTUBBLE_PREFIX"], "share", "fenstubble"))
 from fenstubble import NO_OUTER, Answer, Book, Kind, Mode, Order, Token
 
@@ -145,10 +145,12 @@ class Disk:
     def replace(self, path: Path, data: bytes) -> None:
         new, half = path.with_name(path.name + NEW), len(data) // 2
         self.stop("before", path)
-        with open(new, "wb", buffering=0) as file:
+        with open(new, "wb") as file:
             file.write(data[:half])
+            file.flush()
             self.stop("half", path)
             file.write(data[half:])
+            file.flush()
             self.stop("written", path)
             self.sync(file.fileno())
         self.stop("synced", path)
@@ -417,9 +419,10 @@ class Host:
 
     def recover(self) -> None:
         """The host before may have stopped between a rename and its folder's sync: what is there has to stay there before anything is built on it."""
-        for folder, _, _ in os.walk(self.root):
+        walked = list(os.walk(self.root))
+        for folder, _, _ in walked:
             self.disk.sync_folder(Path(folder))
-        for file in sorted(self.root.rglob("*" + NEW)):
+        for file in (Path(folder, name) for folder, _, names in walked for name in sorted(names) if name.endswith(NEW)):
             self.disk.remove(file)
         self.finish()
 

@@ -1,10 +1,12 @@
 """Tests of the host in one process: files that were changed by others, hosts that fail. Stops are the drill's."""
 from __future__ import annotations
 
+import resource
 import tempfile
 import unittest
+from contextlib import contextmanager
 from pathlib import Path
-from typing import Callable
+from typing import Callable, Iterator
 
 import brute
 import host as hosting
@@ -16,6 +18,17 @@ TEXTS = (b"case notes", b"reading pack")
 
 def no_sync(file: int) -> None:
     """No power is lost in these tests, and syncing takes most of a host's time."""
+
+
+@contextmanager
+def largest_file(size: int) -> Iterator[None]:
+    """No file can be written past that size, as if the disk were full there."""
+    before = resource.getrlimit(resource.RLIMIT_FSIZE)
+    resource.setrlimit(resource.RLIMIT_FSIZE, (size, before[1]))
+    try:
+        yield
+    finally:
+        resource.setrlimit(resource.RLIMIT_FSIZE, before)
 
 
 class FailingDisk(Disk):
@@ -194,6 +207,15 @@ class Hosts(Case):
         for place in ("before", "half", "written", "synced", "renamed", "kept"):
             for number in range(8):
                 self.fail_at(number, place)
+
+    def test_full_disk(self) -> None:
+        """A file that can't be written to its end never takes the place of another."""
+        before = self.content()
+        with Host(self.root) as host, largest_file(2000):
+            self.assertRaises(OSError, host.insert, {0, 2}, bytes(3000))
+        with Host(self.root) as host:
+            self.assertEqual(host.book.folders, 2)
+        self.assertEqual(self.content(), before)
 
     def fail_at(self, number: int, place: str) -> None:
         with Host(self.root) as before:
