@@ -1,0 +1,242 @@
+"""Tests of the host in one process: files that were changed by others, hosts that fail. Stops are the drill's."""
+from __future__ import annotations
+
+import resource
+import tempfile
+import unittest
+from contextlib import contextmanager
+from pathlib import Path
+from typing import Callable, Iterator
+
+import brute
+import host as hosting
+from host import Busy, Chain, Damaged, Disk, Host, Locked, Person
+from fenstubble import Mode, Refused
+
+TEXTS = (b"case notes", b"reading pack")
+
+
+def no_sync(file: int) -> None:
+    """No power is lost in these tests, and syncing takes most of a host's time."""
+
+
+@contextmanager
+def largest_file(size: int) -> Iterator[None]:
+    """No file can be written past that size, as if the disk were full there."""
+    before = resource.getrlimit(resource.RLIMIT_FSIZE)
+    resource.setrlimit(resource.RLIMIT_FSIZE, (size, before[1]))
+    try:
+        yield
+    finally:
+        resource.setrlimit(resource.RLIMIT_FSIZE, before)
+
+
+class FailingDisk(Disk):
+    """A disk on which the write of that number fails, at that place."""
+
+    def __init__(self, number: int, place: str) -> None:
+        super().__init__(self.reached)
+        self.left, self.place = number, place
+
+    def reached(self, place: str, path: Path) -> None:
+        if place == self.place:
+            self.left -= 1
+            if self.left < 0:
+                raise OSError("no space left")
+
+
+class Case(unittest.TestCase):
+    mode = Mode.DELTA
+
+    def setUp(self) -> None:
+        folder = tempfile.TemporaryDirectory()
+        self.addCleanup(folder.cleanup)
+        self.root = Path(folder.name) / "world"
+        Host.create(self.root, self.mode)
+        with Host(self.root) as host:
+            for _ in range(3):
+                host.join()
+            for text in TEXTS:
+                host.insert({0, 1}, text)
+            host.grant(1, 2)
+
+    def file(self, folder: int) -> Path:
+        return self.root / "storage" / "public" / "folders" / str(folder)
+
+    def token(self, name: str) -> Path:
+        return self.root / "storage" / "public" / "tokens" / name
+
+    def chain(self, user: int, folder: int) -> Chain:
+        with Host(self.root) as host:
+            return host.chain(user, folder)
+
+    def opens(self, user: int, folder: int) -> bytes:
+        return Person(self.root, user).open(folder, self.chain(user, folder))
+
+    def content(self) -> dict[str, bytes]:
+        return {str(path): path.read_bytes() for path in self.root.rglob("*") if path.is_file()}
+
+
+class Files(Case):
+    def test_opens(self) -> None:
+        self.assertEqual([self.opens(0, folder) for folder in range(2)], list(TEXTS))
+        self.assertEqual(self.opens(2, 1), TEXTS[1])
+        self.assertEqual([brute.open_all(self.root, user) for user in range(3)], [dict(enumerate(TEXTS))] * 2 + [{1: TEXTS[1]}])
+
+    def test_any_text(self) -> None:
+        with Host(self.root) as host:
+            for text in (b"", b"\n", b"folder 2 inner 3 outer none\n", bytes(100000)):
+                folder = host.insert({2}, text)
+                self.assertEqual(host.read(2, folder), text)
+
+    def test_lines_exchanged(self) -> None:
+        """The public line of a file is another one than that in its box: noticed by everybody who opens it."""
+        for folder in range(2):
+            good = self.file(folder).read_bytes()
+            true = Locked.from_bytes(good)
+            for false in (true._replace(folder=9), true._replace(inner=0), true._replace(outer=0), true._replace(outer=None if true.outer is not None else 3)):
+                self.file(folder).write_bytes(false.to_bytes())
+                for user in range(2):
+                    self.assertRaises(Damaged, self.opens, user, folder)
+            self.file(folder).write_bytes(good)
+            self.opens(0, folder)
+
+    def test_line_inside(self) -> None:
+        """Also where the key is the right one: the box's own line decides."""
+        key = bytes(32)
+        locked = Locked(4, 5, None).filled(key, b"text")
+        self.assertEqual(locked.content(key), b"text")
+        for false in (locked._replace(folder=3), locked._replace(inner=4), locked._replace(outer=5)):
+            self.assertRaises(Damaged, false.content, key)
+
+    def test_folders_exchanged(self) -> None:
+        notes, pack = self.file(0).read_bytes(), self.file(1).read_bytes()
+        self.file(0).write_bytes(pack)
+        self.file(1).write_bytes(notes)
+        for folder in range(2):
+            self.assertRaises(Damaged, self.opens, 0, folder)
+
+    def test_boxes_damaged(self) -> None:
+        good = self.file(1).read_bytes()
+        for at in range(good.index(b"\n") + 1, len(good)):
+            self.file(1).write_bytes(good[:at] + bytes([good[at] ^ 1]) + good[at + 1 :])
+            self.assertRaises(Damaged, self.opens, 2, 1)
+        for data in (b"", b"folder 1", good[:-1], good.partition(b"\n")[0] + b"\n"):
+            self.file(1).write_bytes(data)
+            self.assertRaises(Damaged, self.opens, 2, 1)
+
+    def test_storage_notices(self) -> None:
+        """A line that says the lock which is asked for, on a box that has another one, is not believed."""
+        self.file(0).write_bytes(Locked.from_bytes(self.file(0).read_bytes())._replace(outer=0).to_bytes())
+        with Host(self.root) as host:
+            self.assertRaises(Damaged, host.revoke, 0, 1)
+
+    def test_tokens_damaged(self) -> None:
+        path = self.token("inner-2-3-access")
+        good = path.read_bytes()
+        for at in range(len(good)):
+            path.write_bytes(good[:at] + bytes([good[at] ^ 1]) + good[at + 1 :])
+            self.assertRaises(Damaged, self.opens, 2, 1)
+        path.write_bytes(good)
+        self.opens(2, 1)
+
+    def test_tokens_exchanged(self) -> None:
+        one, other = self.token("inner-0-3-derivation"), self.token("inner-1-3-derivation")
+        data = one.read_bytes()
+        one.write_bytes(other.read_bytes())
+        other.write_bytes(data)
+        for user in range(2):
+            self.assertRaises(Damaged, self.opens, user, 1)
+
+
+class Ciphers(unittest.TestCase):
+    def test_tokens(self) -> None:
+        source, target = bytes(32), bytes(range(32))
+        token = hosting.make_token(source, "inner 3 derivation", target)
+        self.assertEqual(hosting.follow(source, token), target)
+        self.assertEqual(hosting.make_token(source, "inner 3 derivation", target), token, "a function of keys and name")
+        self.assertIsNone(hosting.follow(target, token))
+        self.assertNotIn(target.hex().encode(), token)
+
+    def test_labels(self) -> None:
+        """Another name or another key, another label; so the same number can be used again."""
+        labels = {hosting.label(name, key) for name in ("inner 3 derivation", "inner 3 access", "outer 3") for key in (bytes(32), bytes(31) + b"\1")}
+        self.assertEqual(len(labels), 6)
+
+    def test_access_key(self) -> None:
+        self.assertNotEqual(hosting.access_key(bytes(32)), bytes(32))
+        self.assertEqual(len(hosting.access_key(bytes(32))), hosting.KEY_BYTES)
+
+
+class Hosts(Case):
+    def test_alone(self) -> None:
+        with Host(self.root):
+            self.assertRaises(Busy, Host, self.root)
+        with Host(self.root) as host:
+            pass
+        self.assertRaises(Busy, host.join)
+
+    def test_created_once(self) -> None:
+        before = self.content()
+        self.assertRaises(FileExistsError, Host.create, self.root, Mode.FULL)
+        self.assertEqual(self.content(), before)
+
+    def test_private(self) -> None:
+        """Only what is public can be read by others."""
+        for name in ("owner", "owner/keys", "storage/keys", "people", "people/0"):
+            self.assertEqual((self.root / name).stat().st_mode & 0o077, 0, name)
+
+    def test_refused(self) -> None:
+        with Host(self.root) as host:
+            before = self.content()
+            requests: tuple[Callable[[], object], ...] = (
+                lambda: host.insert([], b"x"),
+                lambda: host.insert({3}, b"x"),
+                lambda: host.grant(1, 2),
+                lambda: host.revoke(0, 2),
+                lambda: host.grant(65536, 0),
+                lambda: host.read(2, 0),
+            )
+            for request in requests:
+                self.assertRaises(Refused, request)
+            self.assertEqual(self.content(), before)
+            host.grant(0, 2)
+
+    def test_failing_disk(self) -> None:
+        """A write that fails closes the host; the next one has the request whole, or not at all."""
+        for place in ("before", "half", "written", "synced", "renamed", "kept"):
+            for number in range(8):
+                self.fail_at(number, place)
+
+    def test_full_disk(self) -> None:
+        """A file that can't be written to its end never takes the place of another."""
+        before = self.content()
+        with Host(self.root) as host, largest_file(2000):
+            self.assertRaises(OSError, host.insert, {0, 2}, bytes(3000))
+        with Host(self.root) as host:
+            self.assertEqual(host.book.folders, 2)
+        self.assertEqual(self.content(), before)
+
+    def fail_at(self, number: int, place: str) -> None:
+        with Host(self.root) as before:
+            folders = before.book.folders
+        with Host(self.root, FailingDisk(number, place)) as host:
+            try:
+                host.insert({0, 2}, b"more")
+            except OSError:
+                self.assertRaises(Busy, host.join)
+        with Host(self.root) as after:
+            self.assertIn(after.book.folders, (folders, folders + 1))
+            self.assertEqual(list(self.root.rglob("*.new")) + list((self.root / "owner" / "stage").iterdir()), [])
+            for folder in range(2, after.book.folders):
+                self.assertEqual([after.read(0, folder), after.read(2, folder)], [b"more"] * 2)
+        self.assertEqual(set(brute.open_all(self.root, 1)), {0, 1})
+
+
+class FullHosts(Hosts):
+    mode = Mode.FULL
+
+
+if __name__ == "__main__":
+    hosting.os.fsync = no_sync
+    unittest.main()

@@ -1,0 +1,382 @@
+"""Fenstubble's calls for Python: a book in memory, and the requests on it.
+
+    >>> from fenstubble import Book, Mode
+    >>> book = Book(Mode.DELTA)
+    >>> mother, child = book.join().number, book.join().number
+    >>> notes, orders = book.insert({mother, child})  # orders: what the host has to do now, one after the other
+    >>> book.open(child, notes)  # the token rows by which the child opens the notes
+    Chains(inner=[1], outer=[])
+
+A request that is refused raises Refused and leaves the book as it was. The module lends what the calls need, so 10 and 13 never come. The library is the file that
+FENSTUBBLE_LIBRARY names, or lib/libfenstubble.so.1 of the prefix that this file is installed in, or what the system's loader finds. One thread at a time on one book.
+"""
+from __future__ import annotations
+
+import ctypes
+import operator
+import os
+import struct
+from enum import IntEnum
+from itertools import count, islice
+from pathlib import Path
+from typing import Iterable, Iterator, NamedTuple, Optional, Sequence, Union
+
+VERSION = 10000  # that this module is written for: major * 10000 + minor * 100 + patch
+USERS, RESOURCES, INNER_TOKENS, OUTER_TOKENS, OUTER_GROUPS = 64, 256, 4096, 4096, 448  # the limits; a resource is a folder
+SET_BYTES = 8  # a set of users: bit i % 8 of byte i // 8 is user i
+WIDTHS = (SET_BYTES, 5, SET_BYTES, 4, SET_BYTES + 4)  # bytes of a row: inner vertices, inner tokens, outer vertices, outer tokens, folders
+ROWS = (USERS + RESOURCES, INNER_TOKENS, USERS + OUTER_GROUPS, OUTER_TOKENS, RESOURCES)  # rows of the lent tables
+HEAD_LEN = 7  # mode, users, folders, inner vertices, inner tokens, outer vertices, outer tokens
+ORDER_WIDTH, ORDER_ROWS = 3, 385  # numbers of an order row; rows that no request exceeds
+OPEN_ROWS = 126  # rows that no open exceeds, both chains together
+BOOK_BYTES = 46609  # of the largest book
+NO_OUTER = 65535  # in the place of an outer vertex: none
+NOBODY = 65535  # as a user, folder or section: one that never exists
+
+
+class Mode(IntEnum):
+    FULL = 0  # an outer lock on every folder
+    DELTA = 1  # an outer lock only where the inner one lets too many in
+
+
+class View(IntEnum):
+    OPEN = 0
+    OUTER_LOCKED = 1  # the outer lock is shut
+    INNER_LOCKED = 2  # the inner lock is shut
+    LOCKED = 3  # both are
+
+
+class Kind(IntEnum):
+    """What an order asks of the host."""
+
+    OUTER_KEY = 1  # make the key of outer vertex a; in a join, hand it to the new user
+    OUTER_TOKEN = 2  # publish the outer token from vertex a to vertex b
+    LOCK = 3  # take the outer lock of folder a off, and put on that of outer vertex b, or none for NO_OUTER
+    INNER_KEY = 4  # make the derivation key of inner vertex a; in a join, hand it to the new user
+    INNER_TOKEN = 5  # publish the inner token from vertex a to the derivation key of vertex b
+    ACCESS_TOKEN = 6  # publish the inner token from vertex a to the access key of vertex b
+    ENCRYPT = 7  # encrypt folder a with the access key of inner vertex b
+
+
+class Ask(IntEnum):
+    """What a request of `serve` asks, and its a and b."""
+
+    JOIN = 0  # neither
+    INSERT = 1  # neither, but the users
+    GRANT = 2  # folder, user
+    REVOKE = 3  # folder, user
+    OPEN = 4  # user, folder
+
+
+class Request(NamedTuple):
+    ask: Ask
+    a: int = 0
+    b: int = 0
+    users: Iterable[int] = ()
+
+
+class Order(NamedTuple):
+    kind: Kind
+    a: int
+    b: int
+
+
+class Answer(NamedTuple):
+    """An accepted request: the new user or folder (of a grant or revoke: its folder), and the orders, to be obeyed one after the other."""
+
+    number: int
+    orders: list[Order]
+
+
+class Chains(NamedTuple):
+    """Token rows by which a user opens a folder, first token first."""
+
+    inner: list[int]
+    outer: list[int]
+
+
+class Token(NamedTuple):
+    source: int
+    target: int
+    access: bool = False  # it leads to the target's access key, not to its derivation key; inner ones only
+
+
+class Folder(NamedTuple):
+    users: frozenset[int]
+    inner: int
+    outer: Optional[int]
+
+
+REASONS = (  # word for word those of fenstubble_reason in fenstubble.h
+    "done",
+    "there is no such user, folder or section, or the list names a user who has not joined",
+    "64 users have joined, and a book has no room for more",
+    "256 folders are there, and a book has no room for more",
+    "the list is empty: a folder is inserted for at least one user",
+    "the user may read the folder already",
+    "the user may not read the folder anyway",
+    "it takes more than 448 outer groups: use lists that are there already, or begin another book",
+    "it takes more than 4096 inner tokens: use lists that are there already, or begin another book",
+    "it takes more than 4096 outer tokens: use lists that are there already, or begin another book",
+    "the list or buffer lent for the answer is too short: lend a longer one",
+    "the folder is closed to this user",
+    "this is not a sound book: go back to the last one that was kept",
+    "a head, table or set that was lent is too short",
+    "the line is not a request: see fenstubble --help",
+)
+
+
+def reason(result: int) -> str:
+    """A call's result in words; 11 may come with its view, as 11 + 256 * view."""
+    number = result % 256
+    return REASONS[number] if number < len(REASONS) else "no such refusal"
+
+
+class Refused(Exception):
+    """A call said no: its number, the view where it is 11, and the place of the fault where one is told."""
+
+    def __init__(self, number: int, view: Optional[View] = None, place: Optional[int] = None) -> None:
+        super().__init__(number, view, place)
+        self.number, self.view, self.place, self.reason = number, view, place, reason(number)
+
+    @staticmethod
+    def of(result: int) -> Refused:
+        number, view = result % 256, result // 256
+        return Refused(number, View(view) if number == 11 else None)
+
+    def __str__(self) -> str:
+        return f"{self.number}: {self.reason}" if self.view is None else f"{self.number} (view {self.view.value}): {self.reason}"
+
+
+Reply = Union[Answer, Chains, Refused]
+
+
+def _load() -> ctypes.CDLL:
+    named = os.environ.get("FENSTUBBLE_LIBRARY")
+    installed = Path(__file__).resolve().parent.parent.parent / "lib" / "libfenstubble.so.1"
+    path = named or (str(installed) if installed.exists() else "libfenstubble.so.1")
+    try:
+        library = ctypes.CDLL(path)
+    except OSError as error:
+        raise ImportError(f"fenstubble: the library can't be loaded ({error}); FENSTUBBLE_LIBRARY may name its file") from error
+    library.fenstubble_version.argtypes, library.fenstubble_version.restype = (), ctypes.c_uint32
+    found = library.fenstubble_version()
+    if found // 10000 != VERSION // 10000 or found < VERSION:
+        raise ImportError(f"fenstubble: {path} is version {found}, and this module is for {VERSION}")
+    return library
+
+
+_library = _load()
+_BYTES, _NUMBERS, _SIZE = ctypes.POINTER(ctypes.c_uint8), ctypes.POINTER(ctypes.c_uint16), ctypes.POINTER(ctypes.c_size_t)
+_LENGTH, _NUMBER = ctypes.c_size_t, ctypes.c_uint16
+_BOOK = (_NUMBERS, _LENGTH) + (_BYTES, _LENGTH) * 5
+_ORDERS = (_NUMBERS, _LENGTH, _NUMBERS)
+
+
+def _declare(name: str, *types: type):
+    call = getattr(_library, "fenstubble_" + name)
+    call.argtypes, call.restype = types, ctypes.c_uint16
+    return call
+
+
+_check = _declare("check", *_BOOK)
+_section = _declare("section", _BYTES, _LENGTH, _LENGTH, _SIZE, _SIZE)
+_read = _declare("read", _BYTES, _LENGTH, *_BOOK)
+_write = _declare("write", *_BOOK, _BYTES, _LENGTH, _SIZE)
+_join = _declare("join", *_BOOK, *_ORDERS)
+_insert = _declare("insert", *_BOOK, *_ORDERS, _BYTES, _LENGTH)
+_grant = _declare("grant", *_BOOK, *_ORDERS, _NUMBER, _NUMBER)
+_revoke = _declare("revoke", *_BOOK, *_ORDERS, _NUMBER, _NUMBER)
+_view = _declare("view", *_BOOK, _NUMBER, _NUMBER, _NUMBERS)
+_open = _declare("open", *_BOOK, _NUMBER, _NUMBER, _NUMBERS, _LENGTH, _NUMBERS, _NUMBERS)
+_serve = _declare("serve", *_BOOK, ctypes.POINTER(ctypes.c_uint64), _LENGTH, _NUMBERS, _LENGTH, _NUMBERS, _LENGTH, _SIZE)
+
+
+def _take(result: int) -> None:
+    if result != 0:
+        raise Refused.of(result)
+
+
+def _bytes(data: bytes) -> ctypes.Array:
+    return (ctypes.c_uint8 * len(data)).from_buffer_copy(data)
+
+
+def _number(number: int) -> int:
+    """The number as the calls take it. One that does not fit is never wrapped: it becomes one that never exists."""
+    number = operator.index(number)
+    return number if 0 <= number < NOBODY else NOBODY
+
+
+def _set(users: Iterable[int]) -> tuple[int, bool]:
+    """The users as the bits of one number, and whether somebody is named who has no bit."""
+    numbers = {_number(user) for user in users}
+    return sum(1 << user for user in numbers if user < USERS), any(user >= USERS for user in numbers)
+
+
+def _users(row: bytes) -> frozenset[int]:
+    bits = int.from_bytes(row, "little")
+    return frozenset(user for user in range(USERS) if bits >> user & 1)
+
+
+def _orders(rows: Sequence[int]) -> list[Order]:
+    return [Order(Kind(rows[at]), rows[at + 1], rows[at + 2]) for at in range(0, len(rows), ORDER_WIDTH)]
+
+
+def _row(request: Request) -> tuple[int, int, int]:
+    """The request as the three numbers of `serve`."""
+    if request.ask == Ask.INSERT:
+        return (Ask.INSERT, *_set(request.users))
+    return Ask(request.ask), _number(request.a), _number(request.b)
+
+
+def version() -> int:
+    """The library's version: major * 10000 + minor * 100 + patch."""
+    return _library.fenstubble_version()
+
+
+def section(data: bytes, k: int) -> memoryview:
+    """Section k (0 to 4) of a book's bytes: the stretch of `data` itself."""
+    start, length = ctypes.c_size_t(), ctypes.c_size_t()
+    _take(_section(_bytes(data), len(data), _number(k), start, length))
+    return memoryview(data)[start.value : start.value + length.value]
+
+
+class Book:
+    """A book in memory. Only its requests change it."""
+
+    def __init__(self, mode: Mode) -> None:
+        self._head = (ctypes.c_uint16 * HEAD_LEN)(Mode(mode))
+        self._tables = [(ctypes.c_uint8 * (rows * width))() for rows, width in zip(ROWS, WIDTHS)]
+
+    @classmethod
+    def from_bytes(cls, data: bytes) -> Book:
+        book = cls(Mode.FULL)
+        _take(_read(_bytes(data), len(data), *book._lent()))
+        return book
+
+    def to_bytes(self) -> bytes:
+        buffer, length = (ctypes.c_uint8 * BOOK_BYTES)(), ctypes.c_size_t()
+        _take(_write(*self._lent(), buffer, BOOK_BYTES, length))
+        return bytes(buffer[: length.value])
+
+    def copy(self) -> Book:
+        """Another book with the same content: a request can be tried on it first."""
+        other = Book(self.mode)
+        ctypes.pointer(other._head)[0] = self._head
+        for to, table in zip(other._tables, self._tables):
+            ctypes.memmove(to, table, len(table))
+        return other
+
+    def check(self) -> None:
+        """Raises Refused unless this is a sound book."""
+        _take(_check(*self._lent()))
+
+    def join(self) -> Answer:
+        return Answer(self.users, self._request(_join))
+
+    def insert(self, users: Iterable[int]) -> Answer:
+        bits, others = _set(users)
+        if others:  # the lent bytes can't name them; what is judged before comes first
+            self.check()
+            raise Refused(1)
+        return Answer(self.folders, self._request(_insert, _bytes(bits.to_bytes(SET_BYTES, "little")), SET_BYTES))
+
+    def grant(self, folder: int, user: int) -> Answer:
+        return Answer(folder, self._request(_grant, _number(folder), _number(user)))
+
+    def revoke(self, folder: int, user: int) -> Answer:
+        return Answer(folder, self._request(_revoke, _number(folder), _number(user)))
+
+    def view(self, user: int, folder: int) -> View:
+        view = ctypes.c_uint16()
+        _take(_view(*self._lent(), _number(user), _number(folder), view))
+        return View(view.value)
+
+    def open(self, user: int, folder: int) -> Chains:
+        rows, inner, outer = (ctypes.c_uint16 * OPEN_ROWS)(), ctypes.c_uint16(), ctypes.c_uint16()
+        _take(_open(*self._lent(), _number(user), _number(folder), rows, len(rows), inner, outer))
+        return Chains(rows[: inner.value], rows[inner.value : inner.value + outer.value])
+
+    def serve(self, requests: Iterable[Request]) -> list[Reply]:
+        """Each request on the book that those before it left, all in one call. A refusal is among the replies, and the next request is tried."""
+        asked = list(requests)
+        numbers = [number for request in asked for number in _row(request)]
+        room = sum(OPEN_ROWS if request.ask == Ask.OPEN else ORDER_ROWS for request in asked)
+        lent, used = (ctypes.c_uint64 * len(numbers))(*numbers), ctypes.c_size_t()
+        answers, orders = (ctypes.c_uint16 * (len(asked) * 3))(), (ctypes.c_uint16 * (room * ORDER_WIDTH))()
+        new = {Ask.JOIN: count(self.users), Ask.INSERT: count(self.folders)}
+        _take(_serve(*self._lent(), lent, len(lent), answers, len(answers), orders, len(orders), used))
+        replies: list[Reply] = []
+        rest = iter(orders)
+        for request, result, view, rows in zip(asked, answers[0::3], answers[1::3], answers[2::3]):
+            given = list(islice(rest, rows * ORDER_WIDTH))
+            if result != 0:
+                replies.append(Refused.of(result + 256 * view))
+            elif request.ask == Ask.OPEN:
+                replies.append(_chains(given))
+            else:
+                replies.append(Answer(next(new[request.ask]) if request.ask in new else request.a, _orders(given)))
+        return replies
+
+    @property
+    def mode(self) -> Mode:
+        return Mode(self._head[0])
+
+    @property
+    def users(self) -> int:
+        """How many have joined."""
+        return self._head[1]
+
+    @property
+    def folders(self) -> int:
+        """How many there are."""
+        return self._head[2]
+
+    @property
+    def inner_vertices(self) -> list[frozenset[int]]:
+        """The starting set of each inner vertex."""
+        return [_users(row) for row in self._rows(0)]
+
+    @property
+    def inner_tokens(self) -> list[Token]:
+        return [Token(source, target, kind == 1) for source, target, kind in self._numbers(1, "<HHB")]
+
+    @property
+    def outer_vertices(self) -> list[frozenset[int]]:
+        return [_users(row) for row in self._rows(2)]
+
+    @property
+    def outer_tokens(self) -> list[Token]:
+        return [Token(*row) for row in self._numbers(3, "<HH")]
+
+    @property
+    def folder_rows(self) -> list[Folder]:
+        rows = self._numbers(4, f"<{SET_BYTES}sHH")
+        return [Folder(_users(users), inner, None if outer == NO_OUTER else outer) for users, inner, outer in rows]
+
+    @property
+    def lists(self) -> list[frozenset[int]]:
+        """Who may read each folder."""
+        return [row.users for row in self.folder_rows]
+
+    def _lent(self) -> list[object]:
+        return [self._head, HEAD_LEN] + [part for table in self._tables for part in (table, len(table))]
+
+    def _request(self, call, *arguments: object) -> list[Order]:
+        orders, given = (ctypes.c_uint16 * (ORDER_ROWS * ORDER_WIDTH))(), ctypes.c_uint16()
+        _take(call(*self._lent(), orders, len(orders), given, *arguments))
+        return _orders(orders[: given.value * ORDER_WIDTH])
+
+    def _rows(self, k: int) -> Iterator[bytes]:
+        rows, width = self._head[(3, 4, 5, 6, 2)[k]], WIDTHS[k]
+        data = bytes(self._tables[k][: rows * width])
+        return (data[at : at + width] for at in range(0, len(data), width))
+
+    def _numbers(self, k: int, layout: str) -> Iterator[tuple]:
+        return (struct.unpack(layout, row) for row in self._rows(k))
+
+
+def _chains(rows: Sequence[int]) -> Chains:
+    """An open's rows as `serve` gives them: (105, row, 0) inner, (111, row, 0) outer."""
+    shown = list(zip(rows[0::ORDER_WIDTH], rows[1::ORDER_WIDTH]))
+    return Chains([row for mark, row in shown if mark == ord("i")], [row for mark, row in shown if mark == ord("o")])
