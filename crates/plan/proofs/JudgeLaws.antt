@@ -15,7 +15,7 @@ use Rattle.rules.specs.Layer.{Layer, found, vertexFor, cover, withVertex}
 use Rattle.rules.specs.Book.{Book, Resource, resource, hasOuter}
 use Rattle.rules.specs.Book as book
 use Rattle.rules.specs.Holders.{holders, holdersOf}
-use Rattle.rules.specs.Sound.{sound, maxUsers}
+use Rattle.rules.specs.Sound.{sound, maxUsers, maxResources, maxTokens, maxGroups}
 use Rattle.rules.specs.Requests.{Done, done, join, withSet, insert}
 use Rattle.rules.specs.Bytes.{tables, bookIn, resourcesIn}
 use Rattle.rules.specs.Refusals.{Request, joins, inserts, grants, revokes, verdict, noSuch, own, limits, work}
@@ -154,10 +154,10 @@ module _ (h : Head) (iv it ov ot rs : List ℕ) where
   unfolding planOf agreed holdersOf layerOf bookIn
   grant-plan-is r u = refl
 
-  insert-passed : (l : ℕ) → l < 2 ^ h .users .0 → (l ≡ 0 → ⊥) → h .resources .0 < 256 → verdict (own (inserts l) b) ≡ none
+  insert-passed : (l : ℕ) → l < 2 ^ h .users .0 → (l ≡ 0 → ⊥) → h .resources .0 < maxResources → verdict (own (inserts l) b) ≡ none
   unfolding own verdict
   insert-passed l lb some′ few =
-      rw (users-count h iv it ov ot rs, resources-count h iv it ov ot rs, lt-ltb l (2 ^ h .users .0) lb, ne-eqb l 0 some′, lt-leb 256 (h .resources .0) few)
+      rw (users-count h iv it ov ot rs, resources-count h iv it ov ot rs, lt-ltb l (2 ^ h .users .0) lb, ne-eqb l 0 some′, lt-leb maxResources (h .resources .0) few)
 
   module _ (ready : Ready h (tables iv it ov ot rs)) where
     abbrev s0 : sound b ≡ true
@@ -219,7 +219,7 @@ module _ (h : Head) (iv it ov ot rs : List ℕ) where
     -- ---- each request, with the callees' answers as premises
 
     module _ (room : ℕ) where
-      pub insert-judged : (l : ℕ) {free : Bool} {i : New} {s : Part} {a : After} {p : Plan} {j : Judged} → l < 2 ^ h .users .0 → (l ≡ 0 → ⊥) → h .resources .0 < 256
+      pub insert-judged : (l : ℕ) {free : Bool} {i : New} {s : Part} {a : After} {p : Plan} {j : Judged} → l < 2 ^ h .users .0 → (l ≡ 0 → ⊥) → h .resources .0 < maxResources
           → free ≡ (eqb (h .mode .0) 1 && holdersAre (layerOf (innerShape h) it iv) l)
           → i .vertices ≡ newVertices (setsOnly (h .«inner_vertices» .0) iv) l → i .tokens ≡ newTokens (setsOnly (h .«inner_vertices» .0) iv) l
           → s ≡ settledPart free book.none sets l
@@ -248,11 +248,11 @@ module _ (h : Head) (iv it ov ot rs : List ℕ) where
       unfolding own verdict
       insert-empty l e q = judged-no (inserts l) b room (rw (users-count h iv it ov ot rs, e, eq-eqb l 0 q))
 
-      pub insert-full : (l : ℕ) → ltb l (2 ^ h .users .0) ≡ true → (l ≡ 0 → ⊥) → 256 ≤ h .resources .0 → No ResourcesFull ≡ judged (inserts l) b room
+      pub insert-full : (l : ℕ) → ltb l (2 ^ h .users .0) ≡ true → (l ≡ 0 → ⊥) → maxResources ≤ h .resources .0 → No ResourcesFull ≡ judged (inserts l) b room
       unfolding own verdict
       insert-full l e n m =
           judged-no (inserts l) b room
-          (rw (users-count h iv it ov ot rs, resources-count h iv it ov ot rs, e, ne-eqb l 0 n, le-leb 256 (h .resources .0) m))
+          (rw (users-count h iv it ov ot rs, resources-count h iv it ov ot rs, e, ne-eqb l 0 n, le-leb maxResources (h .resources .0) m))
 
       -- after a join of a sound book 7, 8 and 9 never hold
       join-verdict : h .users .0 < maxUsers → verdict (own joins b ++ limits room (work joins b)) ≡ cond (ltb room 2) (some ShortList) none
@@ -261,10 +261,10 @@ module _ (h : Head) (iv it ov ot rs : List ℕ) where
           let c : Sizes h (tables iv it ov ot rs) = sizes h iv it ov ot rs ready in
           rw (
             lt-leb maxUsers (b .users) (omega (arith, users-count h iv it ov ot rs)),
-            le-ltb (suc (b .users) + 448) (length (b .outer .sets ++ (single (b .users) ∷ [])))
+            le-ltb (suc (b .users) + maxGroups) (length (b .outer .sets ++ (single (b .users) ∷ [])))
                 (omega (arith, users-count h iv it ov ot rs, outer-count h iv it ov ot rs, length-append (b .outer .sets) (single (b .users) ∷ []))),
-            le-ltb 4096 (length (b .inner .tokens)) (omega (arith, inner-tokens-count h iv it ov ot rs)),
-            le-ltb 4096 (length (b .outer .tokens)) (omega (arith, outer-tokens-count h iv it ov ot rs)),
+            le-ltb maxTokens (length (b .inner .tokens)) (omega (arith, inner-tokens-count h iv it ov ot rs)),
+            le-ltb maxTokens (length (b .outer .tokens)) (omega (arith, outer-tokens-count h iv it ov ot rs)),
           )
 
       pub join-full : maxUsers ≤ h .users .0 → No UsersFull ≡ judged joins b room
