@@ -19,7 +19,8 @@
  *
  * THE BOOK is a head of seven numbers (enum fenstubble_head_place) and five tables of bytes. They are the caller's, who lends them to each call as the
  * last one left them. A table is at least as long as its limit asks (FENSTUBBLE_.._BYTES), however little of it is used; the head says how many rows
- * count, from the first on, and what stands behind those is neither looked at nor touched.
+ * count, from the first on. What stands behind those is not looked at, and only new rows are written there. A head may have more numbers, and those
+ * behind the seventh are neither looked at nor changed.
  *
  *   table            bytes of a row               most rows
  *   inner_vertices   set 8                        320, for 64 users and 256 folders
@@ -46,7 +47,11 @@
  *
  * THE RESULT of a call is 0 (done) or the number of the refusal; 11 comes as 11 + 256 * view. FENSTUBBLE_NUMBER and FENSTUBBLE_VIEW take it apart, and
  * fenstubble_reason says it in words. Look at it first: a refused call leaves all that it was lent as it was, head, tables, lists and buffers, and the
- * cells for counts, views and lengths too, which then tell nothing.
+ * cells for an answer too (count, view, start, length and so on), which then tell nothing. An accepted one leaves what stands behind its answer in a
+ * list or a buffer.
+ *
+ * A book is SOUND if it is what these calls leave, or keeps the same rules (S1 to S8 of docs/RULES.md): sets, tokens and locks fit each other. Any
+ * content is safe to lend: what is not a sound book is refused with 12, before anything but lengths is looked at.
  *
  * ORDERS are rows of three numbers: kind, a, b (enum fenstubble_order). The host obeys them in their order. The new book and its orders are kept
  * together, in one step (one file replaced, one transaction), before the first order is obeyed; a host that was stopped obeys them all again, from the
@@ -63,8 +68,8 @@
  *     (10, where there is a row to give). The cells (count, view, inner, outer, start, length, used) are never NULL.
  *   - While a call runs, nobody else writes what it was lent or reads what it may write. There is no state and nothing is kept between calls: threads
  *     may call at once on different books, and on one book in calls that take it as const.
- *   - A call uses at most FENSTUBBLE_STACK_BYTES of stack, its arguments there included, and also where the walk of an open calls itself, at most 63
- *     deep. It allocates nothing, leaves errno alone, and does no input or output. x86-64, System V calling convention.
+ *   - A call uses at most FENSTUBBLE_STACK_BYTES of stack (measured), its arguments there included, and also where the walk of an open calls itself, at
+ *     most 63 deep. It allocates nothing, leaves errno alone, and does no input or output. x86-64, System V calling convention; C99 or C++11 and later.
  *
  * VERSION. FENSTUBBLE_VERSION is that of this file, fenstubble_version() that of the library, which fits if its major number is the same and it is
  * not older:
@@ -124,7 +129,8 @@ extern "C" {
 #define FENSTUBBLE_REQUEST_WIDTH 3
 #define FENSTUBBLE_ANSWER_WIDTH 3
 
-/* most order rows of one request: with a list of this length no request is refused with 10. By request: join 2, insert 132, grant 385, revoke 65 */
+/* no request gives more order rows: with a list of this length none is refused with 10. By request: join 2, insert 132, grant 385 (no grant comes up
+ * to it), revoke 65 */
 #define FENSTUBBLE_ORDER_ROWS 385
 #define FENSTUBBLE_ORDERS_LEN (FENSTUBBLE_ORDER_ROWS * FENSTUBBLE_ORDER_WIDTH)
 
@@ -205,7 +211,7 @@ enum fenstubble_refusal {
     FENSTUBBLE_OUTER_TOKENS_FULL = 9, /* more than 4096 outer tokens */
     FENSTUBBLE_SHORT_LIST = 10,       /* the list or buffer lent for the answer is too short */
     FENSTUBBLE_CLOSED = 11,           /* an open whose view is not 0: the view comes with it */
-    FENSTUBBLE_UNSOUND = 12,          /* the head and tables, or the bytes, are not a sound book. Any content is safe to lend: it is judged first */
+    FENSTUBBLE_UNSOUND = 12,          /* the head and tables, or the bytes, are not a sound book. Judged before all but 13 */
     FENSTUBBLE_SHORT_TABLE = 13,      /* a head of fewer than 7 numbers, a table shorter than its limit, a set of fewer than 8 bytes */
     FENSTUBBLE_MALFORMED = 14         /* a line that is no request: from the program `fenstubble` alone, never from a call */
 };
@@ -251,11 +257,12 @@ static inline const char *fenstubble_reason(uint16_t result) {
 /* The library's version, as FENSTUBBLE_VERSION. */
 uint32_t fenstubble_version(void);
 
-/* Whether the head and tables hold a sound book. Every other call that is lent a book judges this too, first.
+/* Whether the head and tables hold a sound book. Every other call that is lent a book judges this too, before anything else.
  * 13, 12 */
 uint16_t fenstubble_check(const uint16_t *head, size_t head_len, FENSTUBBLE_CONST_TABLES);
 
-/* Section k of a book's bytes (enum fenstubble_section_number) is the stretch of *length bytes from book + *start on.
+/* Section k of a book's bytes (enum fenstubble_section_number) is the stretch of *length bytes from book + *start on; one without rows starts where
+ * the one before it ends.
  * 12, 1 */
 uint16_t fenstubble_section(const uint8_t *book, size_t book_len, size_t k, size_t *start, size_t *length);
 
@@ -267,7 +274,8 @@ uint16_t fenstubble_read(const uint8_t *book, size_t book_len, uint16_t *head, s
  * 13, 12, 10 */
 uint16_t fenstubble_write(const uint16_t *head, size_t head_len, FENSTUBBLE_CONST_TABLES, uint8_t *buffer, size_t buffer_len, size_t *length);
 
-/* The requests. *count is how many order rows were given, from the first of the list on. */
+/* The requests. *count is how many order rows were given, from the first of the list on. Mind the order: grant and revoke take the folder first, view
+ * and open the user. */
 
 /* A new user.
  * 13, 12, 2, 10 */
@@ -299,24 +307,26 @@ uint16_t fenstubble_view(const uint16_t *head, size_t head_len, FENSTUBBLE_CONST
 uint16_t fenstubble_open(const uint16_t *head, size_t head_len, FENSTUBBLE_CONST_TABLES, uint16_t user, uint16_t resource, uint16_t *list,
                          size_t list_len, uint16_t *inner, uint16_t *outer);
 
-/* Several requests in one call, each on the book that those before it left and on the order rows left, as its own call would; a refused one changes
- * nothing, uses no rows, and the next one goes on. A request row is three numbers: its kind (enum fenstubble_request), a, b. Its answer row is three
- * numbers: the refusal's number or 0, the view for 11, and how many order rows it was given; they follow those of the requests before it. *used is how
- * many rows all used. The book is judged once, first, so that no answer row has 13 or 12. Numbers past the last whole row of three do not count.
- * 13, 12, 10 (fewer answer rows than request rows) */
-uint16_t fenstubble_serve(uint16_t *head, size_t head_len, FENSTUBBLE_TABLES, const uint64_t *requests, size_t requests_len, uint16_t *answers,
-                          size_t answers_len, uint16_t *orders, size_t orders_len, size_t *used);
-
 /* the kind of a request row; any other is answered with 1 */
 enum fenstubble_request {
     FENSTUBBLE_REQUEST_JOIN = 0,   /* a and b do not count */
     FENSTUBBLE_REQUEST_INSERT = 1, /* a: the list as a number, bit i for user i. b: 0; any other says that the list names a user above 63, which is 1 */
     FENSTUBBLE_REQUEST_GRANT = 2,  /* a: the folder. b: the user */
     FENSTUBBLE_REQUEST_REVOKE = 3, /* a: the folder. b: the user */
-    FENSTUBBLE_REQUEST_OPEN = 4    /* a: the user. b: the folder. Its rows in the order list are FENSTUBBLE_ROW_INNER or _OUTER, token row, 0 */
+    FENSTUBBLE_REQUEST_OPEN = 4    /* a: the user. b: the folder */
 };
+/* an open's rows in the order list: FENSTUBBLE_ROW_INNER, token row, 0 for the inner chain, then FENSTUBBLE_ROW_OUTER, token row, 0 for the outer */
 #define FENSTUBBLE_ROW_INNER 105 /* 'i' */
 #define FENSTUBBLE_ROW_OUTER 111 /* 'o' */
+
+/* Several requests in one call, each on the book that those before it left and on the order rows left, as its own call would; a refused one leaves the
+ * book, uses no order rows, and the next one goes on. A request row is three numbers: its kind (enum fenstubble_request), a, b; none is cut to fewer
+ * bits. Its answer row is three numbers: the refusal's number or 0; the view for 11, else 0; and how many order rows it was given, which follow those
+ * of the requests before it. *used is how many rows all used; FENSTUBBLE_ORDER_ROWS for each request are always enough. The book is judged once, first, so
+ * that no answer row has 13 or 12. Numbers past the last whole row of three do not count.
+ * 13, 12, 10 (fewer answer rows than request rows) */
+uint16_t fenstubble_serve(uint16_t *head, size_t head_len, FENSTUBBLE_TABLES, const uint64_t *requests, size_t requests_len, uint16_t *answers,
+                          size_t answers_len, uint16_t *orders, size_t orders_len, size_t *used);
 
 #ifdef __cplusplus
 }
