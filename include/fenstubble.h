@@ -1,4 +1,6 @@
-/* Fenstubble: who may read which folder, under which keys, tokens and locks. This file is all that a host needs to know.
+/* SPDX-License-Identifier: Apache-2.0
+ *
+ * Fenstubble: who may read which folder, under which keys, tokens and locks. This file is all that a host needs to know.
  *
  * The engine decides, the host obeys. The engine holds no key bytes and no cipher: it keeps a book of numbers, and answers each request with orders to
  * the host, which has the keys. Every call is proved: it does what is said here on every input, ends, and reaches nothing but what it was lent.
@@ -50,8 +52,8 @@
  * cells for an answer too (count, view, start, length and so on), which then tell nothing. An accepted one leaves what stands behind its answer in a
  * list or a buffer.
  *
- * A book is SOUND if it is what these calls leave, or keeps the same rules (S1 to S8 of docs/RULES.md): sets, tokens and locks fit each other. Any
- * content is safe to lend: what is not a sound book is refused with 12, before anything but lengths is looked at.
+ * A book is SOUND if its sets, tokens and locks fit each other, as they do in every book that these calls leave from the empty one (RULES.md, S1 to
+ * S8, is installed in share/doc/fenstubble). Any content is safe to lend: what is not a sound book is refused with 12, before anything but lengths.
  *
  * ORDERS are rows of three numbers: kind, a, b (enum fenstubble_order). The host obeys them in their order. The new book and its orders are kept
  * together, in one step (one file replaced, one transaction), before the first order is obeyed; a host that was stopped obeys them all again, from the
@@ -129,13 +131,14 @@ extern "C" {
 #define FENSTUBBLE_REQUEST_WIDTH 3
 #define FENSTUBBLE_ANSWER_WIDTH 3
 
-/* no request gives more order rows: with a list of this length none is refused with 10. By request: join 2, insert 132, grant 385 (no grant comes up
- * to it), revoke 65 */
+/* no request gives more order rows: with a list of this length none is refused with 10. Bounds by request: join 2, insert 132, grant 385, revoke
+ * 65 */
 #define FENSTUBBLE_ORDER_ROWS 385
 #define FENSTUBBLE_ORDERS_LEN (FENSTUBBLE_ORDER_ROWS * FENSTUBBLE_ORDER_WIDTH)
 
-/* most rows of an open: 63 tokens of each layer. A list of this length is never too short for fenstubble_open, which gives one number a row */
-#define FENSTUBBLE_OPEN_ROWS 126
+/* no chain has more tokens, in either layer; and no open more rows, of both chains together: a list of this length is never too short for it */
+#define FENSTUBBLE_CHAIN_ROWS 63
+#define FENSTUBBLE_OPEN_ROWS (2 * FENSTUBBLE_CHAIN_ROWS)
 
 /* stack of a call: measured, and rounded up to a whole KB */
 #define FENSTUBBLE_STACK_BYTES (38 * 1024)
@@ -209,7 +212,7 @@ enum fenstubble_refusal {
     FENSTUBBLE_GROUPS_FULL = 7,       /* the request would leave more than 448 outer groups */
     FENSTUBBLE_INNER_TOKENS_FULL = 8, /* more than 4096 inner tokens */
     FENSTUBBLE_OUTER_TOKENS_FULL = 9, /* more than 4096 outer tokens */
-    FENSTUBBLE_SHORT_LIST = 10,       /* the list or buffer lent for the answer is too short */
+    FENSTUBBLE_SHORT_ANSWER = 10,     /* the list or buffer lent for the answer is too short */
     FENSTUBBLE_CLOSED = 11,           /* an open whose view is not 0: the view comes with it */
     FENSTUBBLE_UNSOUND = 12,          /* the head and tables, or the bytes, are not a sound book. Judged before all but 13 */
     FENSTUBBLE_SHORT_TABLE = 13,      /* a head of fewer than 7 numbers, a table shorter than its limit, a set of fewer than 8 bytes */
@@ -322,8 +325,8 @@ enum fenstubble_request {
 /* Several requests in one call, each on the book that those before it left and on the order rows left, as its own call would; a refused one leaves the
  * book, uses no order rows, and the next one goes on. A request row is three numbers: its kind (enum fenstubble_request), a, b; none is cut to fewer
  * bits. Its answer row is three numbers: the refusal's number or 0; the view for 11, else 0; and how many order rows it was given, which follow those
- * of the requests before it. *used is how many rows all used; FENSTUBBLE_ORDER_ROWS for each request are always enough. The book is judged once, first, so
- * that no answer row has 13 or 12. Numbers past the last whole row of three do not count.
+ * of the requests before it. *used is how many rows all used; FENSTUBBLE_ORDER_ROWS for each request are always enough. The book is judged once, first,
+ * so that no answer row has 13 or 12. Numbers past the last whole row of three do not count.
  * 13, 12, 10 (fewer answer rows than request rows) */
 uint16_t fenstubble_serve(uint16_t *head, size_t head_len, FENSTUBBLE_TABLES, const uint64_t *requests, size_t requests_len, uint16_t *answers,
                           size_t answers_len, uint16_t *orders, size_t orders_len, size_t *used);

@@ -138,12 +138,12 @@ static void nulls(void) {
     story(FENSTUBBLE_MODE_DELTA);
     before = book;
     count = 9;
-    expect(fenstubble_join(BOOK, NULL, 0, &count) == FENSTUBBLE_SHORT_LIST);
-    expect(fenstubble_join(BOOK, orders, 2 * FENSTUBBLE_ORDER_WIDTH - 1, &count) == FENSTUBBLE_SHORT_LIST);
-    expect(fenstubble_grant(BOOK, NULL, 0, &count, 0, 2) == FENSTUBBLE_SHORT_LIST);
-    expect(fenstubble_revoke(BOOK, NULL, 0, &count, 0, 1) == FENSTUBBLE_SHORT_LIST);
-    expect(fenstubble_open(BOOK, 1, 0, NULL, 0, &inner, &outer) == FENSTUBBLE_SHORT_LIST);
-    expect(fenstubble_write(BOOK, NULL, 0, &length) == FENSTUBBLE_SHORT_LIST);
+    expect(fenstubble_join(BOOK, NULL, 0, &count) == FENSTUBBLE_SHORT_ANSWER);
+    expect(fenstubble_join(BOOK, orders, 2 * FENSTUBBLE_ORDER_WIDTH - 1, &count) == FENSTUBBLE_SHORT_ANSWER);
+    expect(fenstubble_grant(BOOK, NULL, 0, &count, 0, 2) == FENSTUBBLE_SHORT_ANSWER);
+    expect(fenstubble_revoke(BOOK, NULL, 0, &count, 0, 1) == FENSTUBBLE_SHORT_ANSWER);
+    expect(fenstubble_open(BOOK, 1, 0, NULL, 0, &inner, &outer) == FENSTUBBLE_SHORT_ANSWER);
+    expect(fenstubble_write(BOOK, NULL, 0, &length) == FENSTUBBLE_SHORT_ANSWER);
     expect(fenstubble_section(NULL, 0, 0, &start, &length) == FENSTUBBLE_UNSOUND);
     expect(fenstubble_read(NULL, 0, BOOK) == FENSTUBBLE_UNSOUND);
     expect(memcmp(&before, &book, sizeof book) == 0 && count == 9 && inner == 9 && outer == 9 && length == 9 && start == 9);
@@ -315,7 +315,7 @@ static void served(void) {
     uint16_t answers[LEN];
     size_t used = 9;
     begin(FENSTUBBLE_MODE_DELTA);
-    expect(fenstubble_serve(BOOK, requests[0], LEN, answers, LEN - 1, orders, FENSTUBBLE_ORDERS_LEN, &used) == FENSTUBBLE_SHORT_LIST && used == 9);
+    expect(fenstubble_serve(BOOK, requests[0], LEN, answers, LEN - 1, orders, FENSTUBBLE_ORDERS_LEN, &used) == FENSTUBBLE_SHORT_ANSWER && used == 9);
     expect(fenstubble_serve(BOOK, requests[0], LEN, answers, LEN, orders, FENSTUBBLE_ORDERS_LEN, &used) == FENSTUBBLE_DONE && used == 12);
     expect(memcmp(answers, want, sizeof want) == 0);
     expect(orders[8 * 3] == FENSTUBBLE_ROW_INNER && orders[8 * 3 + 1] == 1 && orders[8 * 3 + 2] == 0);
