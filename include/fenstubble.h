@@ -1,71 +1,73 @@
-/* Fenstubble 1.0.0: who may read which folder, under which keys, tokens and locks. This file is all that a host needs to know.
+/* Fenstubble: who may read which folder, under which keys, tokens and locks. This file is all that a host needs to know.
  *
- * The engine decides, the host obeys. The engine holds no key bytes and no cipher: it keeps a book of numbers, and answers each request with orders
- * to the host, which has the keys. Every call is proved: it does what is said here on every input, ends, and reaches nothing but what it was lent.
+ * The engine decides, the host obeys. The engine holds no key bytes and no cipher: it keeps a book of numbers, and answers each request with orders to
+ * the host, which has the keys. Every call is proved: it does what is said here on every input, ends, and reaches nothing but what it was lent.
  *
- *   uint16_t head[FENSTUBBLE_HEAD_LEN] = {FENSTUBBLE_MODE_DELTA};              the empty book: five tables beside it, of any content
- *   result = fenstubble_join(head, .., orders, FENSTUBBLE_ORDERS_LEN, &count); user 0
- *   result = fenstubble_write(head, .., buffer, sizeof buffer, &length);       keep these bytes and the orders, both or neither; then obey the orders
+ *   uint16_t head[FENSTUBBLE_HEAD_LEN] = {FENSTUBBLE_MODE_DELTA};                the empty book, with five tables of any content
+ *   result = fenstubble_join(head, .., orders, FENSTUBBLE_ORDERS_LEN, &count);   user 0, and two orders
+ *   result = fenstubble_write(head, .., buffer, FENSTUBBLE_BOOK_BYTES, &length); bytes to keep together with the orders; then obey these
  *
- * THE WORLD. Users read folders (a folder is a `resource` in the names below). Each folder has a list, the set of the users who may read it. Keys belong
- * to vertices, and a vertex is a set of users. There are two layers, each with vertices and tokens of its own: the inner one is the owner's, the outer one
- * the storage's. A token leads from the key of one vertex to the key of another: who has the first key derives the second. An inner vertex has a
- * derivation key and an access key, the second a hash of the first; an outer vertex has one key. Each folder is encrypted with the access key of an inner
- * vertex, and may be locked once more, with the key of an outer vertex. A user is handed the derivation key of the own inner vertex and the key of the own
- * outer vertex, and derives the rest. Proved: after any run of calls a user derives what opens a folder exactly if its list names that user.
+ * THE WORLD. Users read folders; a folder is called `resource` in the names below. Each folder has a list, the set of the users who may read it. Keys
+ * belong to vertices, and a vertex is a set of users. There are two layers, each with vertices and tokens of its own: the inner one is the owner's, the
+ * outer one the storage's. A token leads from the key of one vertex to the key of another: who has the first derives the second. An inner vertex has a
+ * derivation key and an access key, which is the hash of the first; an outer vertex has one key. Each folder is encrypted with the access key of an
+ * inner vertex, and may be locked once more with the key of an outer vertex. A user is handed the derivation key of the own inner vertex and the key of
+ * the own outer vertex, and derives the rest. Proved: after any run of calls a user derives what opens a folder exactly if its list names that user.
  *
- * NUMBERS start at 0 in each kind, in order of creation: users, folders, inner vertices, inner tokens, outer vertices, outer tokens. A vertex number says
- * nothing of a user: the own vertices of user 3 may be inner 5 and outer 7.
+ * NUMBERS start at 0, in order of creation, each kind by itself: users, folders, inner vertices, inner tokens, outer vertices, outer tokens. A vertex
+ * number says nothing of a user: the own vertices of user 3 may be inner 5 and outer 7.
  *
- * THE BOOK is a head of seven numbers and five tables of bytes. They are the caller's, who lends them to each call as the last call left them.
+ * THE BOOK is a head of seven numbers (enum fenstubble_head_place) and five tables of bytes. They are the caller's, who lends them to each call as the
+ * last one left them. A table is at least as long as its limit asks (FENSTUBBLE_.._BYTES), however little of it is used; the head says how many rows
+ * count, from the first on, and what stands behind those is neither looked at nor touched.
  *
- *   head    enum fenstubble_head_place: the mode, then how many users there are, folders, and rows of each other table
- *   tables  each is at least as long as its limit asks (FENSTUBBLE_.._BYTES), whatever is used of it; the head says how many rows count, from the first on.
- *           Rows past those, and bytes past the limit, are neither looked at nor touched.
+ *   table            bytes of a row               most rows
+ *   inner_vertices   set 8                        320, for 64 users and 256 folders
+ *   inner_tokens     from 2, to 2, kind 1         4096
+ *   outer_vertices   set 8                        512, for 64 users and 448 groups
+ *   outer_tokens     from 2, to 2                 4096
+ *   resources        list 8, inner 2, outer 2     256
  *
- *   table            bytes of a row                     most rows
- *   inner_vertices   set 8                              320 (64 users, 256 folders)
- *   inner_tokens     from 2, to 2, kind 1               4096
- *   outer_vertices   set 8                              512 (64 users, 448 groups)
- *   outer_tokens     from 2, to 2                       4096
- *   resources        list 8, inner 2, outer 2           256
+ * A number of 2 bytes is little-endian. `from`, `to`, `inner` and `outer` are vertex numbers of their layer; `outer` is 65535 (FENSTUBBLE_NO_OUTER)
+ * where the folder has no outer lock. Kind 0 leads to the derivation key of `to`, kind 1 to its access key alone. A set is 8 bytes: bit i % 8 of byte
+ * i / 8 is user i, so that user 0 is bit 0 of the first byte. The set of an inner vertex is that of the users who derive its derivation key.
  *
- * A number of 2 bytes is little-endian. `from`, `to`, `inner` and `outer` are vertex numbers of their layer; `outer` is 65535 (FENSTUBBLE_NO_OUTER) where the
- * folder has no outer lock. A kind 0 token leads to the derivation key of `to`, a kind 1 token to its access key alone. A set of users is 8 bytes: bit i % 8
- * of byte i / 8 is user i, so that user 0 is bit 0 of the first byte. The set of an inner vertex is that of the users who derive its derivation key.
+ * The empty book is a head of zeros but for its mode, with tables of any content. Mode full (0) puts an outer lock on every folder; mode delta (1) only
+ * where the inner one lets too many in.
  *
- * The empty book is a head of zeros but for its mode, with tables of any content. Mode full (0) locks every folder in both layers; mode delta (1) puts an
- * outer lock only where the inner one lets too many in.
+ * AS BYTES a book is 17 bytes (FENSTUBBLE_BOOK_HEADER), then the rows that count of the five tables, in the order above, and nothing else:
  *
- * AS BYTES a book is 17 bytes (FENSTUBBLE_BOOK_HEADER) and then the used rows of the five tables, in the order above, with nothing between or behind:
+ *   at   bytes                                 at   bytes
+ *   0    3   "TKB" (54 4B 42)                  9    2   inner vertices
+ *   3    2   1, the version of this layout     11   2   inner tokens
+ *   5    1   mode                              13   2   outer vertices
+ *   6    1   users                             15   2   outer tokens
+ *   7    2   folders                           17       the rows
  *
- *   at   bytes                               at   bytes
- *   0    3   54 4B 42, "TKB"                 9    2   inner vertices
- *   3    2   1, the version of this layout   11   2   inner tokens
- *   5    1   mode                            13   2   outer vertices
- *   6    1   users                           15   2   outer tokens
- *   7    2   folders                         17       the rows
+ * THE RESULT of a call is 0 (done) or the number of the refusal; 11 comes as 11 + 256 * view. FENSTUBBLE_NUMBER and FENSTUBBLE_VIEW take it apart, and
+ * fenstubble_reason says it in words. Look at it first: a refused call leaves all that it was lent as it was, head, tables, lists and buffers, and the
+ * cells for counts, views and lengths too, which then tell nothing.
  *
- * THE RESULT of a call is 0 (done), or the number of the refusal; 11 comes as 11 + 256 * view. FENSTUBBLE_NUMBER and FENSTUBBLE_VIEW take it apart,
- * fenstubble_reason says it in words. Look at it first: a refused call leaves everything that was lent as it was, head, tables, lists, buffers, and the cells
- * for counts, views and lengths, which then hold what they held before.
+ * ORDERS are rows of three numbers: kind, a, b (enum fenstubble_order). The host obeys them in their order. The new book and its orders are kept
+ * together, in one step (one file replaced, one transaction), before the first order is obeyed; a host that was stopped obeys them all again, from the
+ * first, so obeying one twice must do no harm.
+ *   - A new user's number is head[FENSTUBBLE_HEAD_USERS] before the join, which is the number of users less 1 after it. A new folder's is
+ *     head[FENSTUBBLE_HEAD_RESOURCES] before the insert, the number of folders less 1 after it.
+ *   - A join has two orders, 4 and 1. The keys that they make are the new user's own, to be handed to that user. No other request makes a user's own
+ *     vertex, and nobody is handed the keys of the others.
  *
- * ORDERS are rows of three numbers: kind, a, b (enum fenstubble_order). The host obeys them in their order. Keep the new book and its orders together, in one
- * step (one file replaced, one transaction), before the first order is obeyed, and after a stop obey them again from the first: so each must be harmless twice.
- * The orders of a join are always two, 4 and 1: the keys that they make are the new user's own, to be handed to that user. No other request makes a user's own
- * vertex, and nobody is handed the keys of the others. The new user's number is head[FENSTUBBLE_HEAD_USERS] before the join, that is the number of users less
- * 1 after it; a new folder's is head[FENSTUBBLE_HEAD_RESOURCES] before the insert.
+ * LENDING. A pointer is followed by its length: in bytes for a table, a set, a book or a buffer, in numbers (not in rows) for a head or a list.
+ *   - Nothing that a call may write (what is not const) overlaps anything else that it is lent.
+ *   - Pointers to uint16_t, uint64_t and size_t are aligned as their type asks; bytes need no alignment.
+ *   - A pointer may be NULL only where its length is 0. A head, table or set of length 0 is too short (13); a list of length 0 has room for nothing
+ *     (10, where there is a row to give). The cells (count, view, inner, outer, start, length, used) are never NULL.
+ *   - While a call runs, nobody else writes what it was lent or reads what it may write. There is no state and nothing is kept between calls: threads
+ *     may call at once on different books, and on one book in calls that take it as const.
+ *   - A call uses at most FENSTUBBLE_STACK_BYTES of stack, its arguments there included, and also where the walk of an open calls itself, at most 63
+ *     deep. It allocates nothing, leaves errno alone, and does no input or output. x86-64, System V calling convention.
  *
- * LENDING. A pointer is followed by a length: of bytes for a table, a set, a book or a buffer, of numbers (not of rows) for a head or a list.
- *   - Nothing that a call may write (what is not const) may overlap anything else that it is lent.
- *   - uint16_t, uint64_t and size_t pointers are aligned as their type asks; bytes need no alignment.
- *   - A pointer may be NULL only where its length is 0. A head or table of length 0 is too short (13), a list of length 0 has room for nothing (10 where there is
- *     a row to give). The cells (count, view, inner, outer, start, length, used) are never NULL.
- *   - While a call runs nobody else writes what it was lent, or reads what it may write. Nothing is kept between calls and there is no state: threads may call
- *     at once on different books, and on one book in calls that take it as const.
- * Nothing is allocated, errno is not touched, there is no input and no output, nothing is thrown. x86-64, System V calling convention.
- *
- * VERSION. FENSTUBBLE_VERSION is that of this file, fenstubble_version() that of the library. A library fits if it has the same major number and is not older:
+ * VERSION. FENSTUBBLE_VERSION is that of this file, fenstubble_version() that of the library, which fits if its major number is the same and it is
+ * not older:
  *   fenstubble_version() / 10000 == FENSTUBBLE_VERSION / 10000 && fenstubble_version() >= FENSTUBBLE_VERSION */
 #ifndef FENSTUBBLE_H
 #define FENSTUBBLE_H
@@ -129,18 +131,21 @@ extern "C" {
 /* most rows of an open: 63 tokens of each layer. A list of this length is never too short for fenstubble_open, which gives one number a row */
 #define FENSTUBBLE_OPEN_ROWS 126
 
+/* stack of a call: measured, and rounded up to a whole KB */
+#define FENSTUBBLE_STACK_BYTES (38 * 1024)
+
 /* ---- numbers and their meaning */
 
 /* the head's places */
 #define FENSTUBBLE_HEAD_LEN 7
 enum fenstubble_head_place {
-    FENSTUBBLE_HEAD_MODE = 0,
-    FENSTUBBLE_HEAD_USERS = 1,
-    FENSTUBBLE_HEAD_RESOURCES = 2,
-    FENSTUBBLE_HEAD_INNER_VERTICES = 3,
-    FENSTUBBLE_HEAD_INNER_TOKENS = 4,
-    FENSTUBBLE_HEAD_OUTER_VERTICES = 5,
-    FENSTUBBLE_HEAD_OUTER_TOKENS = 6
+    FENSTUBBLE_HEAD_MODE = 0,           /* enum fenstubble_mode */
+    FENSTUBBLE_HEAD_USERS = 1,          /* users who have joined */
+    FENSTUBBLE_HEAD_RESOURCES = 2,      /* folders: rows that count in resources */
+    FENSTUBBLE_HEAD_INNER_VERTICES = 3, /* rows that count in inner_vertices, the users' own among them */
+    FENSTUBBLE_HEAD_INNER_TOKENS = 4,   /* rows that count in inner_tokens */
+    FENSTUBBLE_HEAD_OUTER_VERTICES = 5, /* rows that count in outer_vertices, the users' own among them */
+    FENSTUBBLE_HEAD_OUTER_TOKENS = 6    /* rows that count in outer_tokens */
 };
 
 enum fenstubble_mode {
@@ -154,13 +159,13 @@ enum fenstubble_token_kind {
     FENSTUBBLE_TOKEN_ACCESS = 1      /* leads to the access key and no further */
 };
 
-/* the tables, and the sections of a book's bytes */
+/* the sections of a book's bytes, with a row of each: that of its table */
 enum fenstubble_section_number {
-    FENSTUBBLE_SECTION_INNER_VERTICES = 0,
-    FENSTUBBLE_SECTION_INNER_TOKENS = 1,
-    FENSTUBBLE_SECTION_OUTER_VERTICES = 2,
-    FENSTUBBLE_SECTION_OUTER_TOKENS = 3,
-    FENSTUBBLE_SECTION_RESOURCES = 4
+    FENSTUBBLE_SECTION_INNER_VERTICES = 0, /* set */
+    FENSTUBBLE_SECTION_INNER_TOKENS = 1,   /* from, to, kind (enum fenstubble_token_kind) */
+    FENSTUBBLE_SECTION_OUTER_VERTICES = 2, /* set */
+    FENSTUBBLE_SECTION_OUTER_TOKENS = 3,   /* from, to */
+    FENSTUBBLE_SECTION_RESOURCES = 4       /* list, inner, outer or FENSTUBBLE_NO_OUTER */
 };
 
 /* what a user knows of a folder's two keys. Where there is no outer lock the outer key counts as known */
@@ -171,43 +176,45 @@ enum fenstubble_view_number {
     FENSTUBBLE_VIEW_LOCKED = 3        /* neither */
 };
 
-/* an order's kind, with its a and b, and what the host does for it. How keys, tokens and locks are made is the host's affair.
- * A token's row number is its row in its table: inner tokens count orders 5 and 6 together, outer tokens orders 2, from 0 since the empty book. */
+/* an order's kind, with its a and b, and what the host does for it: 1 to 3 in the outer layer, the storage's, 4 to 7 in the inner one, the owner's.
+ * How keys, tokens and locks are made is the host's affair. A token's row number is its row in its table: inner tokens count orders 5 and 6
+ * together, outer tokens orders 2, from 0 since the empty book. */
 enum fenstubble_order {
     FENSTUBBLE_ORDER_OUTER_KEY = 1,    /* v 0: make a key for outer vertex v */
     FENSTUBBLE_ORDER_OUTER_TOKEN = 2,  /* v w: publish an outer token, which from the key of vertex v gives the key of vertex w */
     FENSTUBBLE_ORDER_LOCK = 3,         /* r v: take the outer lock of folder r off, if it has one, and lock it with the key of outer vertex v;
                                         * where v is FENSTUBBLE_NO_OUTER it stays off */
     FENSTUBBLE_ORDER_INNER_KEY = 4,    /* v 0: make a derivation key for inner vertex v; its access key is the hash of that one */
-    FENSTUBBLE_ORDER_INNER_TOKEN = 5,  /* v w: publish an inner token, which from the derivation key of vertex v gives the derivation key of vertex w */
-    FENSTUBBLE_ORDER_ACCESS_TOKEN = 6, /* v w: publish an inner token, which from the derivation key of vertex v gives the access key of vertex w alone */
+    FENSTUBBLE_ORDER_INNER_TOKEN = 5,  /* v w: publish an inner token, which from the derivation key of vertex v gives that of vertex w */
+    FENSTUBBLE_ORDER_ACCESS_TOKEN = 6, /* v w: publish an inner token, which from the derivation key of vertex v gives the access key of vertex w,
+                                        * and nothing that lies behind it */
     FENSTUBBLE_ORDER_ENCRYPT = 7       /* r v: encrypt the new folder r with the access key of inner vertex v */
 };
 
 /* why a call was refused: fenstubble_reason has the words */
 enum fenstubble_refusal {
-    FENSTUBBLE_DONE = 0,               /* it was not refused */
-    FENSTUBBLE_NO_SUCH = 1,            /* no such user, folder or section, or a list names a user who has not joined */
-    FENSTUBBLE_USERS_FULL = 2,         /* a join at 64 users */
-    FENSTUBBLE_RESOURCES_FULL = 3,     /* an insert at 256 folders */
-    FENSTUBBLE_EMPTY_LIST = 4,         /* an insert for nobody */
-    FENSTUBBLE_LISTED = 5,             /* a grant to a user whom the list names */
-    FENSTUBBLE_NOT_LISTED = 6,         /* a revoke from a user whom the list does not name */
-    FENSTUBBLE_GROUPS_FULL = 7,        /* the request would leave more than 448 outer groups */
-    FENSTUBBLE_INNER_TOKENS_FULL = 8,  /* more than 4096 inner tokens */
-    FENSTUBBLE_OUTER_TOKENS_FULL = 9,  /* more than 4096 outer tokens */
-    FENSTUBBLE_SHORT_LIST = 10,        /* the list or buffer lent for the answer is too short */
-    FENSTUBBLE_CLOSED = 11,            /* an open whose view is not 0: the view comes with it */
-    FENSTUBBLE_UNSOUND = 12,           /* the head and tables, or the book's bytes, are not a sound book. Any content is safe to lend: it is judged first */
-    FENSTUBBLE_SHORT_TABLE = 13,       /* a head of fewer than 7 numbers, a table shorter than its limit, a set of fewer than 8 bytes */
-    FENSTUBBLE_MALFORMED = 14          /* a line that is no request: from the program `fenstubble` alone, never from a call */
+    FENSTUBBLE_DONE = 0,              /* it was not refused */
+    FENSTUBBLE_NO_SUCH = 1,           /* no such user, folder or section, or a list names a user who has not joined */
+    FENSTUBBLE_USERS_FULL = 2,        /* a join at 64 users */
+    FENSTUBBLE_RESOURCES_FULL = 3,    /* an insert at 256 folders */
+    FENSTUBBLE_EMPTY_LIST = 4,        /* an insert for nobody */
+    FENSTUBBLE_LISTED = 5,            /* a grant to a user whom the list names */
+    FENSTUBBLE_NOT_LISTED = 6,        /* a revoke from a user whom the list does not name */
+    FENSTUBBLE_GROUPS_FULL = 7,       /* the request would leave more than 448 outer groups */
+    FENSTUBBLE_INNER_TOKENS_FULL = 8, /* more than 4096 inner tokens */
+    FENSTUBBLE_OUTER_TOKENS_FULL = 9, /* more than 4096 outer tokens */
+    FENSTUBBLE_SHORT_LIST = 10,       /* the list or buffer lent for the answer is too short */
+    FENSTUBBLE_CLOSED = 11,           /* an open whose view is not 0: the view comes with it */
+    FENSTUBBLE_UNSOUND = 12,          /* the head and tables, or the bytes, are not a sound book. Any content is safe to lend: it is judged first */
+    FENSTUBBLE_SHORT_TABLE = 13,      /* a head of fewer than 7 numbers, a table shorter than its limit, a set of fewer than 8 bytes */
+    FENSTUBBLE_MALFORMED = 14         /* a line that is no request: from the program `fenstubble` alone, never from a call */
 };
 
 /* a result taken apart: the refusal's number or 0, and the view, which is 0 but for 11 */
 #define FENSTUBBLE_NUMBER(result) ((result) % 256)
 #define FENSTUBBLE_VIEW(result) ((result) / 256)
 
-/* A result in words. It takes the number alone too; "no such refusal" where there is none of that number. */
+/* A result in words; "no such refusal" where there is none of that number. It stands here and not in the library, where every function is proved. */
 static inline const char *fenstubble_reason(uint16_t result) {
     static const char *const reasons[] = {
         "done",
@@ -292,22 +299,24 @@ uint16_t fenstubble_view(const uint16_t *head, size_t head_len, FENSTUBBLE_CONST
 uint16_t fenstubble_open(const uint16_t *head, size_t head_len, FENSTUBBLE_CONST_TABLES, uint16_t user, uint16_t resource, uint16_t *list,
                          size_t list_len, uint16_t *inner, uint16_t *outer);
 
-/* Several requests in one call, each on the book that those before it left and on the order rows left, as its own call would; a refused one changes nothing,
- * uses no rows, and the next one goes on. A request row is three numbers: its kind (enum fenstubble_request), a, b. Its answer row is three numbers: the
- * refusal's number or 0, the view for 11, and how many order rows it was given; they follow those of the requests before it. *used is how many all used.
- * The book is judged once, first, so no answer is 13 or 12. Numbers past the last whole row of three do not count.
+/* Several requests in one call, each on the book that those before it left and on the order rows left, as its own call would; a refused one changes
+ * nothing, uses no rows, and the next one goes on. A request row is three numbers: its kind (enum fenstubble_request), a, b. Its answer row is three
+ * numbers: the refusal's number or 0, the view for 11, and how many order rows it was given; they follow those of the requests before it. *used is how
+ * many rows all used. The book is judged once, first, so that no answer row has 13 or 12. Numbers past the last whole row of three do not count.
  * 13, 12, 10 (fewer answer rows than request rows) */
-enum fenstubble_request {
-    FENSTUBBLE_REQUEST_JOIN = 0,   /* a and b do not count */
-    FENSTUBBLE_REQUEST_INSERT = 1, /* a: the list as a number, bit i for user i; b: 0, or anything else where the list also names a user above 63 (so 1) */
-    FENSTUBBLE_REQUEST_GRANT = 2,  /* a: the folder, b: the user */
-    FENSTUBBLE_REQUEST_REVOKE = 3, /* a: the folder, b: the user */
-    FENSTUBBLE_REQUEST_OPEN = 4    /* a: the user, b: the folder; its rows in the order list are FENSTUBBLE_ROW_INNER or FENSTUBBLE_ROW_OUTER, token row, 0 */
-};                                 /* any other kind is answered with 1 */
-#define FENSTUBBLE_ROW_INNER 105 /* 'i' */
-#define FENSTUBBLE_ROW_OUTER 111 /* 'o' */
 uint16_t fenstubble_serve(uint16_t *head, size_t head_len, FENSTUBBLE_TABLES, const uint64_t *requests, size_t requests_len, uint16_t *answers,
                           size_t answers_len, uint16_t *orders, size_t orders_len, size_t *used);
+
+/* the kind of a request row; any other is answered with 1 */
+enum fenstubble_request {
+    FENSTUBBLE_REQUEST_JOIN = 0,   /* a and b do not count */
+    FENSTUBBLE_REQUEST_INSERT = 1, /* a: the list as a number, bit i for user i. b: 0; any other says that the list names a user above 63, which is 1 */
+    FENSTUBBLE_REQUEST_GRANT = 2,  /* a: the folder. b: the user */
+    FENSTUBBLE_REQUEST_REVOKE = 3, /* a: the folder. b: the user */
+    FENSTUBBLE_REQUEST_OPEN = 4    /* a: the user. b: the folder. Its rows in the order list are FENSTUBBLE_ROW_INNER or _OUTER, token row, 0 */
+};
+#define FENSTUBBLE_ROW_INNER 105 /* 'i' */
+#define FENSTUBBLE_ROW_OUTER 111 /* 'o' */
 
 #ifdef __cplusplus
 }

@@ -1,9 +1,11 @@
 /* Holds fenstubble.h to the library: what the header says of sizes, lending, numbers and layouts is so. It ends with status 1 at the first thing
  * that is not. */
+#define _XOPEN_SOURCE 700
 #include <fenstubble.h>
 #include <stdio.h>
 #include <stdlib.h>
 #include <string.h>
+#include <ucontext.h>
 
 /* ---- sizes, each as a plain number */
 
@@ -22,7 +24,12 @@ _Static_assert(FENSTUBBLE_BOOK_HEADER == 17 && FENSTUBBLE_BOOK_BYTES == 46609, "
 _Static_assert(FENSTUBBLE_BOOK_BYTES == FENSTUBBLE_BOOK_HEADER + FENSTUBBLE_INNER_VERTICES_BYTES + FENSTUBBLE_INNER_TOKENS_BYTES +
                                             FENSTUBBLE_OUTER_VERTICES_BYTES + FENSTUBBLE_OUTER_TOKENS_BYTES + FENSTUBBLE_RESOURCES_BYTES,
                "the largest book is the header and all tables");
-_Static_assert(FENSTUBBLE_HEAD_LEN == 7 && FENSTUBBLE_HEAD_OUTER_TOKENS + 1 == FENSTUBBLE_HEAD_LEN, "the head");
+_Static_assert(FENSTUBBLE_HEAD_LEN == 7 && FENSTUBBLE_HEAD_MODE == 0 && FENSTUBBLE_HEAD_USERS == 1 && FENSTUBBLE_HEAD_RESOURCES == 2, "the head");
+_Static_assert(FENSTUBBLE_HEAD_INNER_VERTICES == 3 && FENSTUBBLE_HEAD_INNER_TOKENS == 4, "the head's inner layer");
+_Static_assert(FENSTUBBLE_HEAD_OUTER_VERTICES == 5 && FENSTUBBLE_HEAD_OUTER_TOKENS == 6, "the head's outer layer");
+_Static_assert(FENSTUBBLE_SECTION_INNER_VERTICES == 0 && FENSTUBBLE_SECTION_INNER_TOKENS == 1, "the inner sections");
+_Static_assert(FENSTUBBLE_SECTION_OUTER_VERTICES == 2 && FENSTUBBLE_SECTION_OUTER_TOKENS == 3, "the outer sections");
+_Static_assert(FENSTUBBLE_SECTION_RESOURCES == 4, "the last section");
 _Static_assert(FENSTUBBLE_ORDER_WIDTH == 3 && FENSTUBBLE_REQUEST_WIDTH == 3 && FENSTUBBLE_ANSWER_WIDTH == 3, "rows of three");
 _Static_assert(FENSTUBBLE_ORDER_ROWS == 385 && FENSTUBBLE_ORDERS_LEN == 1155 && FENSTUBBLE_OPEN_ROWS == 126, "most rows");
 _Static_assert(FENSTUBBLE_NO_OUTER == 65535 && FENSTUBBLE_ROW_INNER == 'i' && FENSTUBBLE_ROW_OUTER == 'o', "marks");
@@ -155,14 +162,16 @@ static void numbers(void) {
         expect(orders[0] == FENSTUBBLE_ORDER_INNER_KEY && orders[1] == vertex && orders[2] == 0);
         expect(orders[3] == FENSTUBBLE_ORDER_OUTER_KEY && orders[4] == other && orders[5] == 0);
     }
-    /* folder 0 for user 0 alone, whose own keys serve: encrypt, then lock */
-    static const uint8_t set[FENSTUBBLE_SET_BYTES] = {1};
-    static const uint16_t want[] = {FENSTUBBLE_ORDER_ENCRYPT, 0, 0, FENSTUBBLE_ORDER_LOCK, 0, 0};
-    expect(fenstubble_insert(BOOK, ORDERS, set, sizeof set) == FENSTUBBLE_DONE && count == 2 && memcmp(orders, want, sizeof want) == 0);
+    /* folder 0 for user 0 alone, whose own keys serve */
+    static const uint8_t own[FENSTUBBLE_SET_BYTES] = {1};
+    static const uint16_t locked[] = {FENSTUBBLE_ORDER_ENCRYPT, 0, 0, FENSTUBBLE_ORDER_LOCK, 0, 0};
+    expect(fenstubble_insert(BOOK, ORDERS, own, sizeof own) == FENSTUBBLE_DONE && count == 2 && memcmp(orders, locked, sizeof locked) == 0);
     expect(book.head[FENSTUBBLE_HEAD_RESOURCES] == 1);
     expect(fenstubble_open(BOOK, 0, 0, NULL, 0, &inner, &outer) == FENSTUBBLE_DONE && inner == 0 && outer == 0);
-    /* user 1 gets a token to the access key, then an outer key for both with its two tokens */
-    expect(fenstubble_grant(BOOK, ORDERS, 0, 1) == FENSTUBBLE_DONE && count == 5 && orders[0] == FENSTUBBLE_ORDER_ACCESS_TOKEN);
+    /* user 1 gets a token to the access key; both get an outer key */
+    static const uint16_t shared[] = {FENSTUBBLE_ORDER_ACCESS_TOKEN, 1, 0, FENSTUBBLE_ORDER_OUTER_KEY, 3, 0, FENSTUBBLE_ORDER_OUTER_TOKEN, 0, 3,
+                                      FENSTUBBLE_ORDER_OUTER_TOKEN,  1, 3, FENSTUBBLE_ORDER_LOCK,      0, 3};
+    expect(fenstubble_grant(BOOK, ORDERS, 0, 1) == FENSTUBBLE_DONE && count == 5 && memcmp(orders, shared, sizeof shared) == 0);
     expect(fenstubble_open(BOOK, 1, 0, rows, FENSTUBBLE_OPEN_ROWS, &inner, &outer) == FENSTUBBLE_DONE && inner == 1 && outer == 1);
     expect(rows[0] == 0 && rows[1] == 1);
     expect(book.table[1][4] == FENSTUBBLE_TOKEN_ACCESS);
@@ -170,6 +179,84 @@ static void numbers(void) {
     uint16_t result = fenstubble_open(BOOK, 2, 0, rows, FENSTUBBLE_OPEN_ROWS, &inner, &outer);
     expect(FENSTUBBLE_NUMBER(result) == FENSTUBBLE_CLOSED && FENSTUBBLE_VIEW(result) == FENSTUBBLE_VIEW_LOCKED);
     expect(fenstubble_view(BOOK, 2, 0, &view) == FENSTUBBLE_DONE && view == FENSTUBBLE_VIEW_LOCKED);
+    /* folder 1 for users 0 and 1 */
+    static const uint8_t both[FENSTUBBLE_SET_BYTES] = {3};
+    static const uint16_t made[] = {FENSTUBBLE_ORDER_INNER_KEY, 3, 0, FENSTUBBLE_ORDER_INNER_TOKEN, 0, 3, FENSTUBBLE_ORDER_INNER_TOKEN, 1, 3,
+                                    FENSTUBBLE_ORDER_ENCRYPT,   1, 3, FENSTUBBLE_ORDER_LOCK,        1, 3};
+    expect(fenstubble_insert(BOOK, ORDERS, both, sizeof both) == FENSTUBBLE_DONE && count == 5 && memcmp(orders, made, sizeof made) == 0);
+    /* a folder without an outer lock, and a user whom its inner one keeps out; one whom the outer lock keeps out */
+    story(FENSTUBBLE_MODE_DELTA);
+    expect(fenstubble_view(BOOK, 2, 0, &view) == FENSTUBBLE_DONE && view == FENSTUBBLE_VIEW_INNER_LOCKED);
+    expect(fenstubble_revoke(BOOK, ORDERS, 0, 1) == FENSTUBBLE_DONE);
+    expect(fenstubble_view(BOOK, 1, 0, &view) == FENSTUBBLE_DONE && view == FENSTUBBLE_VIEW_OUTER_LOCKED);
+    expect(fenstubble_view(BOOK, 0, 0, &view) == FENSTUBBLE_DONE && view == FENSTUBBLE_VIEW_OPEN);
+}
+
+/* ---- every refusal of a request, and the limit that it stands for */
+
+/* 64 users in an empty book. */
+static void crowd(uint16_t mode) {
+    begin(mode);
+    for (int user = 0; user < FENSTUBBLE_USERS; user++)
+        expect(fenstubble_join(BOOK, ORDERS) == FENSTUBBLE_DONE);
+}
+
+/* A folder for all but two users, or one where they are the same, or for these alone. */
+static uint16_t insert(int without, unsigned one, unsigned other) {
+    uint8_t set[FENSTUBBLE_SET_BYTES];
+    memset(set, without ? 255 : 0, sizeof set);
+    set[one / 8] ^= (uint8_t)(1 << one % 8);
+    if (other != one)
+        set[other / 8] ^= (uint8_t)(1 << other % 8);
+    return fenstubble_insert(BOOK, ORDERS, set, sizeof set);
+}
+
+static void requests_refused(void) {
+    static const uint8_t nobody[FENSTUBBLE_SET_BYTES];
+    crowd(FENSTUBBLE_MODE_FULL);
+    expect(fenstubble_join(BOOK, ORDERS) == FENSTUBBLE_USERS_FULL);
+    expect(fenstubble_insert(BOOK, ORDERS, nobody, sizeof nobody) == FENSTUBBLE_EMPTY_LIST);
+    expect(fenstubble_grant(BOOK, ORDERS, 0, 0) == FENSTUBBLE_NO_SUCH);
+    for (int folder = 0; folder < FENSTUBBLE_RESOURCES; folder++)
+        expect(insert(0, 0, 0) == FENSTUBBLE_DONE);
+    expect(insert(0, 0, 0) == FENSTUBBLE_RESOURCES_FULL);
+    expect(fenstubble_grant(BOOK, ORDERS, 0, 0) == FENSTUBBLE_LISTED && fenstubble_revoke(BOOK, ORDERS, 0, 1) == FENSTUBBLE_NOT_LISTED);
+    story(FENSTUBBLE_MODE_DELTA);
+    expect(insert(0, 0, 3) == FENSTUBBLE_NO_SUCH);
+}
+
+/* A pair for each of 256 folders, then a third user for each: every list a group of its own. */
+static void groups_full(void) {
+    unsigned one = 0, other = 1;
+    uint16_t folder, result = FENSTUBBLE_DONE;
+    crowd(FENSTUBBLE_MODE_FULL);
+    for (folder = 0; folder < FENSTUBBLE_RESOURCES; folder++) {
+        expect(insert(0, one, other) == FENSTUBBLE_DONE);
+        if (++other == FENSTUBBLE_USERS - 1) {
+            one++;
+            other = one + 1;
+        }
+    }
+    for (folder = 0; result == FENSTUBBLE_DONE && folder < FENSTUBBLE_RESOURCES; folder++)
+        result = fenstubble_grant(BOOK, ORDERS, folder, FENSTUBBLE_USERS - 1);
+    expect(result == FENSTUBBLE_GROUPS_FULL);
+    expect(book.head[FENSTUBBLE_HEAD_OUTER_VERTICES] == FENSTUBBLE_USERS + FENSTUBBLE_OUTER_GROUPS);
+}
+
+/* A set of all users but one or two has a token from each of its users: 64 of 63 and one of 62 are 4094. */
+static void tokens_full(void) {
+    crowd(FENSTUBBLE_MODE_DELTA);
+    for (unsigned user = 0; user < FENSTUBBLE_USERS; user++)
+        expect(insert(1, user, user) == FENSTUBBLE_DONE);
+    expect(insert(1, 0, 1) == FENSTUBBLE_DONE && book.head[FENSTUBBLE_HEAD_INNER_TOKENS] == 4094);
+    expect(insert(1, 2, 3) == FENSTUBBLE_INNER_TOKENS_FULL);
+
+    crowd(FENSTUBBLE_MODE_DELTA);
+    expect(insert(1, 0, 0) == FENSTUBBLE_DONE && fenstubble_grant(BOOK, ORDERS, 0, 0) == FENSTUBBLE_DONE);
+    for (uint16_t user = 0; user < FENSTUBBLE_USERS; user++)
+        expect(fenstubble_revoke(BOOK, ORDERS, 0, user) == FENSTUBBLE_DONE && fenstubble_grant(BOOK, ORDERS, 0, user) == FENSTUBBLE_DONE);
+    expect(fenstubble_revoke(BOOK, ORDERS, 0, 0) == FENSTUBBLE_DONE && fenstubble_revoke(BOOK, ORDERS, 0, 1) == FENSTUBBLE_DONE);
+    expect(book.head[FENSTUBBLE_HEAD_OUTER_TOKENS] == 4094 && fenstubble_revoke(BOOK, ORDERS, 0, 2) == FENSTUBBLE_OUTER_TOKENS_FULL);
 }
 
 static unsigned at(const uint8_t *bytes, size_t place) { return bytes[place] + 256u * bytes[place + 1]; }
@@ -200,21 +287,94 @@ static void layout(void) {
     expect(at(book.table[4], 10) == FENSTUBBLE_NO_OUTER);
 }
 
-/* The kinds of requests that are served together, their answers and rows. */
+/* The kinds of requests that are served together, and their answers. */
 static void served(void) {
-    static const uint64_t requests[] = {FENSTUBBLE_REQUEST_JOIN,   7, 7, FENSTUBBLE_REQUEST_JOIN,  0, 0, FENSTUBBLE_REQUEST_INSERT, 3, 0,
-                                        FENSTUBBLE_REQUEST_INSERT, 3, 1, FENSTUBBLE_REQUEST_OPEN,  1, 0, FENSTUBBLE_REQUEST_REVOKE, 0, 1,
-                                        FENSTUBBLE_REQUEST_OPEN,   1, 0, FENSTUBBLE_REQUEST_GRANT, 0, 1, 5,                         0, 0};
-    static const uint16_t want[] = {0, 0, 2, 0, 0, 2, 0, 0, 4, FENSTUBBLE_NO_SUCH, 0, 0, 0, 0, 1, 0, 0, 1, FENSTUBBLE_CLOSED, 1, 0, 0, 0, 1,
-                                    FENSTUBBLE_NO_SUCH, 0, 0};
-    enum { ROWS = sizeof requests / sizeof *requests };
-    uint16_t answers[ROWS];
+    static const uint64_t requests[][FENSTUBBLE_REQUEST_WIDTH] = {{FENSTUBBLE_REQUEST_JOIN, 7, 7},
+                                                                  {FENSTUBBLE_REQUEST_JOIN, 0, 0},
+                                                                  {FENSTUBBLE_REQUEST_INSERT, 3, 0},
+                                                                  {FENSTUBBLE_REQUEST_INSERT, 3, 1},
+                                                                  {FENSTUBBLE_REQUEST_OPEN, 1, 0},
+                                                                  {FENSTUBBLE_REQUEST_REVOKE, 0, 1},
+                                                                  {FENSTUBBLE_REQUEST_OPEN, 1, 0},
+                                                                  {FENSTUBBLE_REQUEST_OPEN, 0, 0},
+                                                                  {FENSTUBBLE_REQUEST_GRANT, 0, 1},
+                                                                  {FENSTUBBLE_REQUEST_GRANT, 0, 65536},
+                                                                  {5, 0, 0}};
+    static const uint16_t want[][FENSTUBBLE_ANSWER_WIDTH] = {{0, 0, 2},
+                                                             {0, 0, 2},
+                                                             {0, 0, 4},
+                                                             {FENSTUBBLE_NO_SUCH, 0, 0},
+                                                             {0, 0, 1},
+                                                             {0, 0, 1},
+                                                             {FENSTUBBLE_CLOSED, FENSTUBBLE_VIEW_OUTER_LOCKED, 0},
+                                                             {0, 0, 1},
+                                                             {0, 0, 1},
+                                                             {FENSTUBBLE_NO_SUCH, 0, 0},
+                                                             {FENSTUBBLE_NO_SUCH, 0, 0}};
+    enum { LEN = sizeof want / sizeof want[0][0] };
+    uint16_t answers[LEN];
     size_t used = 9;
     begin(FENSTUBBLE_MODE_DELTA);
-    expect(fenstubble_serve(BOOK, requests, ROWS, answers, ROWS - 1, orders, FENSTUBBLE_ORDERS_LEN, &used) == FENSTUBBLE_SHORT_LIST && used == 9);
-    expect(fenstubble_serve(BOOK, requests, ROWS, answers, ROWS, orders, FENSTUBBLE_ORDERS_LEN, &used) == FENSTUBBLE_DONE && used == 11);
+    expect(fenstubble_serve(BOOK, requests[0], LEN, answers, LEN - 1, orders, FENSTUBBLE_ORDERS_LEN, &used) == FENSTUBBLE_SHORT_LIST && used == 9);
+    expect(fenstubble_serve(BOOK, requests[0], LEN, answers, LEN, orders, FENSTUBBLE_ORDERS_LEN, &used) == FENSTUBBLE_DONE && used == 12);
     expect(memcmp(answers, want, sizeof want) == 0);
     expect(orders[8 * 3] == FENSTUBBLE_ROW_INNER && orders[8 * 3 + 1] == 1 && orders[8 * 3 + 2] == 0);
+
+    /* in mode full the outer chain comes too */
+    static const uint64_t opens[] = {FENSTUBBLE_REQUEST_OPEN, 1, 0};
+    static const uint16_t chains[] = {FENSTUBBLE_ROW_INNER, 1, 0, FENSTUBBLE_ROW_OUTER, 1, 0};
+    story(FENSTUBBLE_MODE_FULL);
+    expect(fenstubble_serve(BOOK, opens, 3, answers, 3, orders, FENSTUBBLE_ORDERS_LEN, &used) == FENSTUBBLE_DONE && used == 2);
+    expect(memcmp(orders, chains, sizeof chains) == 0);
+}
+
+/* ---- stack: each call on a stack of its own, painted before */
+
+static uint8_t stack[4 * FENSTUBBLE_STACK_BYTES];
+static ucontext_t here, there;
+static size_t needed; /* by the call at hand */
+
+/* A call, and how far below the place where it was made its stack was used. */
+#define CALL(call)                                                                                                                                   \
+    do {                                                                                                                                             \
+        const uint8_t *top, *low = stack;                                                                                                            \
+        __asm__ volatile("mov %%rsp, %0" : "=r"(top));                                                                                               \
+        for (uint8_t *p = stack; p < top - 256; p++)                                                                                                 \
+            *p = 0xC7;                                                                                                                               \
+        expect((call) == FENSTUBBLE_DONE);                                                                                                           \
+        while (*low == 0xC7)                                                                                                                         \
+            low++;                                                                                                                                   \
+        needed = (size_t)(top - low);                                                                                                                \
+        expect(needed > 4096 && needed <= FENSTUBBLE_STACK_BYTES);                                                                                   \
+    } while (0)
+
+static void every_call(void) {
+    static uint8_t bytes[FENSTUBBLE_BOOK_BYTES];
+    static const uint64_t requests[] = {FENSTUBBLE_REQUEST_OPEN, 1, 0, FENSTUBBLE_REQUEST_GRANT, 0, 2};
+    static const uint8_t set[FENSTUBBLE_SET_BYTES] = {7};
+    static uint16_t rows[FENSTUBBLE_OPEN_ROWS], inner, outer, view, answers[6];
+    static size_t start, length, used;
+    CALL(fenstubble_check(BOOK));
+    CALL(fenstubble_write(BOOK, bytes, sizeof bytes, &length));
+    CALL(fenstubble_section(bytes, length, 4, &start, &used));
+    CALL(fenstubble_read(bytes, length, BOOK));
+    CALL(fenstubble_join(BOOK, ORDERS));
+    CALL(fenstubble_insert(BOOK, ORDERS, set, sizeof set));
+    CALL(fenstubble_grant(BOOK, ORDERS, 0, 2));
+    CALL(fenstubble_revoke(BOOK, ORDERS, 0, 2));
+    CALL(fenstubble_view(BOOK, 1, 0, &view));
+    CALL(fenstubble_open(BOOK, 1, 0, rows, FENSTUBBLE_OPEN_ROWS, &inner, &outer));
+    CALL(fenstubble_serve(BOOK, requests, 6, answers, 6, orders, FENSTUBBLE_ORDERS_LEN, &used));
+}
+
+static void stacks(void) {
+    story(FENSTUBBLE_MODE_DELTA);
+    expect(getcontext(&there) == 0);
+    there.uc_stack.ss_sp = stack;
+    there.uc_stack.ss_size = sizeof stack;
+    there.uc_link = &here;
+    makecontext(&there, every_call, 0);
+    expect(swapcontext(&here, &there) == 0);
 }
 
 int main(void) {
@@ -223,7 +383,11 @@ int main(void) {
     lengths();
     nulls();
     numbers();
+    requests_refused();
+    groups_full();
+    tokens_full();
     layout();
     served();
+    stacks();
     return 0;
 }

@@ -6,10 +6,9 @@ use mathlib.Core.Bool.{Bool, true, false, cond}
 use mathlib.Core.List.{List}
 use lib.Dec.{ltb}
 use lib.ListN.{length}
-use Rattle.rows.specs.Number.{cell}
 use Rattle.sets.specs.Words.{bytes}
 use Rattle.rules.specs.Bytes.{Tables}
-use Rattle.rules.specs.Refusals.{Request, inserts}
+use Rattle.rules.specs.Refusals.{Request}
 use Rattle.rules.specs.Calls.{Change, change, viewCall, Shown, openCall, sectionCall, Load, readCall, Write, writeCall, Service, serveCall}
 use Rattle.rules.specs.declared.Changed.{Changed}
 use Rattle.rules.specs.declared.Changed.the-variants as changed
@@ -24,7 +23,7 @@ use Rattle.rules.specs.declared.Loaded.the-variants as loaded
 use Rattle.rules.specs.declared.Stored.{Stored}
 use Rattle.rules.specs.declared.Stored.the-variants as written
 use Rattle.theorems.proofs.RefusedLaws.{change-refused, serve-refused, read-refused, open-refused, write-refused}
-use Rattle.host.specs.Answers.{headLength, headFrom, answered, stretchBy, sectionAnswer, Loads, loadedAs, readBy, readAnswer, Writes, writtenAs, writeBy, writeAnswer, Changes, changedAs, changeTold, changeBy, changeAnswer, insertAnswer, Views, viewedAs, viewAs, viewAnswer, Opens, openedAs, openBy, openAnswer, Serves, servedAs, serveTold, serveBy, serveAnswer}
+use Rattle.host.specs.Answers.{headLength, headFrom, answered, stretchBy, sectionAnswer, Loads, loadedAs, readBy, readAnswer, Writes, writtenAs, writeBy, writeAnswer, Changes, changedAs, changeTold, changeBy, changeAnswer, insertOf, insertAnswer, Views, viewedAs, viewAs, viewAnswer, Opens, openedAs, openBy, openAnswer, Serves, servedAs, serveTold, serveBy, serveAnswer}
 
 -- answers X with their result; `lent k` is what was lent, with the result k
 module _ {X : Type 0} (result : X → ℕ) (lent : ℕ → X) where
@@ -58,10 +57,8 @@ pub c-insert-refused : (bs l : List ℕ) (t : Tables) (list : List ℕ) (n : ℕ
     → let a = insertAnswer bs l t list n in (a .told .result ≡ 0 → ⊥) → a ≡ changedAs (a .told .result) l t list n
 unfolding insertAnswer
 c-insert-refused bs l t list n =
-    left-short (λ (x : Changes). x .told .result) (λ k. changedAs k l t list n) (λ k. refl) (ltb (length bs) bytes) (changeAnswer q l t list n) (c-change-refused q l t list n)
-  where
-    q : Request
-    q = inserts (cell bytes 0 bs)
+    left-short (λ (x : Changes). x .told .result) (λ k. changedAs k l t list n) (λ k. refl) (ltb (length bs) bytes) (changeAnswer (insertOf bs) l t list n)
+    (c-change-refused (insertOf bs) l t list n)
 
 pub c-serve-refused : (requests l : List ℕ) (t : Tables) (answers list : List ℕ) (n : ℕ)
     → let a = serveAnswer requests l t answers list n in (a .told .result ≡ 0 → ⊥) → a ≡ servedAs (a .told .result) l t answers list n

@@ -8,11 +8,11 @@ use native.Mathlib.Omega.{arith}
 use lib.Dec.{ltb}
 use lib.ListN.{length, drop, length-drop}
 use borrow.Author.Tests.{lt-ltb, le-ltb}
-use Rattle.rows.specs.Number.{cell, stored}
+use Rattle.rows.specs.Number.{stored}
 use Rattle.sets.specs.Words.{bytes}
 use Rattle.rules.specs.Sound.{sound}
 use Rattle.rules.specs.Bytes.{Tables}
-use Rattle.rules.specs.Refusals.{Request, joins, inserts, grants, revokes}
+use Rattle.rules.specs.Refusals.{Request, joins, grants, revokes}
 use Rattle.rules.specs.Calls.{Change, change, Load, readCall, Service, serveCall}
 use Rattle.rules.specs.Runs.{Kept, keep, bookOf, to-change, to-serve, to-read, headChanged, headServed, headLoaded, after, run}
 use Rattle.rules.specs.declared.Head.{Head}
@@ -24,7 +24,7 @@ use Rattle.rules.specs.declared.Loaded.{Loaded}
 use Rattle.rules.specs.declared.Loaded.the-variants as loaded
 use Rattle.theorems.proofs.ServeLaws.{run-append}
 use Rattle.theorems.proofs.Demand.{Demand, demand-3}
-use Rattle.host.specs.Answers.{headLength, headFrom, headNumbers, readBy, readAnswer, changeTold, changeBy, changedAs, changeAnswer, insertAnswer, serveTold, serveBy, serveAnswer}
+use Rattle.host.specs.Answers.{headLength, headFrom, headNumbers, readBy, readAnswer, changeTold, changeBy, changedAs, changeAnswer, insertOf, insertAnswer, serveTold, serveBy, serveAnswer}
 use Rattle.host.specs.CRuns.{Held, hold, keptIn, bookHeld, CCall, c-check, c-section, c-read, c-write, c-join, c-insert, c-grant, c-revoke, c-view, c-open, c-serve, leftByChange, leftByRead, leftByServe, afterC, runC, called, calledAll}
 
 -- ---- what is left of a head's numbers
@@ -69,10 +69,10 @@ module _ (s : Held) (n : headLength ≤ length (s .numbers)) where
   insert-leaves bs list m = go (ltb (length bs) bytes)
     where
       go : (z : Bool)
-          → let a = changeAnswer (inserts (cell bytes 0 bs)) (s .numbers) (s .tables) list m in
-          Leaves s (run (cond z [] (to-change (inserts (cell bytes 0 bs)) list ∷ [])) (keptIn s)) (leftByChange (cond z (changedAs 13 (s .numbers) (s .tables) list m) a))
+          → let a = changeAnswer (insertOf bs) (s .numbers) (s .tables) list m in
+          Leaves s (run (cond z [] (to-change (insertOf bs) list ∷ [])) (keptIn s)) (leftByChange (cond z (changedAs 13 (s .numbers) (s .tables) list m) a))
       go true = leaves-head s (s .tables)
-      go false = change-leaves (inserts (cell bytes 0 bs)) list m
+      go false = change-leaves (insertOf bs) list m
 
   serve-leaves : (requests answers list : List ℕ) (m : ℕ)
       → Leaves s (after (to-serve requests answers list) (keptIn s)) (leftByServe (serveAnswer requests (s .numbers) (s .tables) answers list m))

@@ -135,9 +135,13 @@ changeBy c l n = record { told = changeTold (c .answer) l n; tables = c .tables;
 unfoldable pub changeAnswer : Request → List ℕ → Tables → List ℕ → ℕ → Changes
 changeAnswer q l t list n = cond (ltb (length l) headLength) (changedAs 13 l t list n) (changeBy (change q (headFrom l) t list) l n)
 
--- an insert: its list is lent as the bytes of a set in a row; fewer are 13, like a short head, and bytes past them are not looked at
+-- an insert's list is lent as the bytes of a set in a row; bytes past them are not looked at
+abbrev pub insertOf : List ℕ → Request
+insertOf bs = inserts (cell bytes 0 bs)
+
+-- fewer bytes are 13, like a short head
 unfoldable pub insertAnswer : List ℕ → List ℕ → Tables → List ℕ → ℕ → Changes
-insertAnswer bs l t list n = cond (ltb (length bs) bytes) (changedAs 13 l t list n) (changeAnswer (inserts (cell bytes 0 bs)) l t list n)
+insertAnswer bs l t list n = cond (ltb (length bs) bytes) (changedAs 13 l t list n) (changeAnswer (insertOf bs) l t list n)
 
 -- a view, in a cell
 pub record Views : Type 0 where

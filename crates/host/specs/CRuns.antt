@@ -5,13 +5,12 @@ use mathlib.Core.Bool.{cond}
 use mathlib.Core.List.{List, [], _∷_, _++_}
 use lib.Dec.{ltb}
 use lib.ListN.{length}
-use Rattle.rows.specs.Number.{cell}
 use Rattle.sets.specs.Words.{bytes}
 use Rattle.rules.specs.Book.{Book}
 use Rattle.rules.specs.Bytes.{Tables, bookIn}
-use Rattle.rules.specs.Refusals.{joins, inserts, grants, revokes}
+use Rattle.rules.specs.Refusals.{joins, grants, revokes}
 use Rattle.rules.specs.Runs.{Kept, keep, Call, to-change, to-view, to-open, to-serve, to-read, to-write, to-show}
-use Rattle.host.specs.Answers.{headFrom, Loads, readAnswer, Changes, changeAnswer, insertAnswer, Serves, serveAnswer}
+use Rattle.host.specs.Answers.{headFrom, Loads, readAnswer, Changes, changeAnswer, insertOf, insertAnswer, Serves, serveAnswer}
 
 -- what a C host keeps between two calls: the head's numbers and the five tables
 pub record Held : Type 0 where
@@ -29,7 +28,8 @@ keptIn s = keep (headFrom (s .numbers)) (s .tables)
 abbrev pub bookHeld : Held → Book
 bookHeld s = bookIn (headFrom (s .numbers)) (s .tables)
 
--- a call of include/fenstubble.h with what it takes beside head and tables, in the header's order; a cell by its content before the call
+-- a call of include/fenstubble.h that is lent anything, with what it takes beside head and tables, in the header's order; a cell by its content before
+-- the call
 pub data CCall : Type 0 where
   c-check : CCall
   c-section : List ℕ → ℕ → ℕ → ℕ → CCall
@@ -76,7 +76,7 @@ runC (c ∷ cs) s = runC cs (afterC c s)
 -- fenstubble_check is none of them, nor is an insert whose list has too few bytes
 unfoldable pub called : CCall → List Call
 called (c-join list n) = to-change joins list ∷ []
-called (c-insert list n bs) = cond (ltb (length bs) bytes) [] (to-change (inserts (cell bytes 0 bs)) list ∷ [])
+called (c-insert list n bs) = cond (ltb (length bs) bytes) [] (to-change (insertOf bs) list ∷ [])
 called (c-grant list n r u) = to-change (grants r u) list ∷ []
 called (c-revoke list n r u) = to-change (revokes r u) list ∷ []
 called (c-serve requests answers list n) = to-serve requests answers list ∷ []

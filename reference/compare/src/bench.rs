@@ -1,5 +1,5 @@
-//! The measurements: each call on both sides, in interleaved rounds, and its
-//! instructions, as Markdown tables.
+//! The measurements: each call on both sides, in interleaved rounds, its
+//! instructions and its stack, as Markdown tables.
 //!
 //! Times are processor time, and of the calls alone: each is made on a copy of
 //! the lent memory that was made before, whether the call changes it or not.
@@ -23,7 +23,8 @@ use crate::engine::Engine;
 use crate::memory::{Filler, Lent, Memory};
 use crate::model::Model;
 use crate::side::{Call, Side};
-use crate::worlds::{grown, large, shuffled, typical, LARGEST, NEARLY};
+use crate::stack;
+use crate::worlds::{chained, grown, large, shuffled, typical, LARGEST, NEARLY};
 
 /// Rounds of each measurement; in each, both sides once.
 const ROUNDS: usize = 31;
@@ -63,7 +64,7 @@ impl Item {
             Call::Check | Call::View(..) => {}
             _ => lent.list = Memory::of(&[0; 3 * 400]),
         }
-        lent
+        lent.for_call(self.call)
     }
 }
 
@@ -94,7 +95,7 @@ fn calls(heading: &str, book: &Book) -> Group {
         Call::Read,
         Call::Write,
         Call::Join,
-        Call::Insert(new_list.0),
+        Call::insert(new_list.0),
         Call::Grant(r, outsider),
         Call::Revoke(r, listed),
         Call::View(listed, r),
@@ -278,7 +279,59 @@ pub fn tables(say: impl Fn(&str)) -> String {
         text += &table(&group, &say);
     }
     say("the request program");
-    text + &program(&say)
+    text += &program(&say);
+    say("the stack");
+    text + "\n" + &stacks()
+}
+
+/// The requests of a group as rows to serve.
+fn rows_to_serve(group: &Group) -> Vec<u64> {
+    let row = |item: &Item| match item.call {
+        Call::Join => Some([0, 0, 0]),
+        Call::Insert(list, _) => Some([1, list, 0]),
+        Call::Grant(r, u) => Some([2, r.into(), u.into()]),
+        Call::Revoke(r, u) => Some([3, r.into(), u.into()]),
+        Call::Open(u, r) => Some([4, u.into(), r.into()]),
+        _ => None,
+    };
+    group.items.iter().filter_map(row).flatten().collect()
+}
+
+/// The stack of each call of a group, then of a serve of its requests.
+fn stacks_of(group: &Group) -> Vec<(&'static str, Option<usize>)> {
+    let of = |call: Call, lent: &Lent| (call.name(), stack::taken(call, lent));
+    let items = group.items.iter();
+    let mut all: Vec<_> = items.map(|item| of(item.call, &item.lent())).collect();
+    let mut lent = group.items[0].lent();
+    let rows = rows_to_serve(group);
+    lent.answers = Memory::of(&vec![0; rows.len()]);
+    lent.list = Memory::of(&[0; 5 * 3 * 400]);
+    lent.requests = Memory::of(&rows);
+    all.push(of(Call::Serve, &lent));
+    all
+}
+
+/// The table of the stack that the engine's calls take.
+pub fn stacks() -> String {
+    let books = [
+        ("typical", typical().book),
+        ("nearly largest", large(&NEARLY).book),
+        ("longest chains", chained()),
+    ];
+    let names = books.each_ref().map(|(name, _)| *name);
+    let columns = books.map(|(name, book)| stacks_of(&calls(name, book.book())));
+    let mut text = format!(
+        "Stack of a call, bytes, by book:\n\n| | {} |\n|---|--:|--:|--:|\n",
+        names.join(" | ")
+    );
+    for (at, (name, _)) in columns[0].iter().enumerate() {
+        let taken = columns.each_ref().map(|column| match column[at].1 {
+            Some(bytes) => grouped(bytes as u64),
+            None => "–".into(),
+        });
+        let _ = writeln!(text, "| {name} | {} |", taken.join(" | "));
+    }
+    text
 }
 
 fn table(group: &Group, say: &impl Fn(&str)) -> String {
@@ -436,7 +489,7 @@ fn told_count(counted: Result<[u64; 2], String>, say: &impl Fn(&str)) -> Option<
 /// The call as words for `counted`; a list is its number.
 fn words(call: Call) -> String {
     match call {
-        Call::Insert(list) => format!("insert {list}"),
+        Call::Insert(list, _) => format!("insert {list}"),
         _ => call.to_string(),
     }
 }
@@ -453,7 +506,7 @@ pub fn call_of(words: &str) -> Option<Call> {
         ("read", []) => Call::Read,
         ("write", []) => Call::Write,
         ("join", []) => Call::Join,
-        ("insert", &[list]) => Call::Insert(list),
+        ("insert", &[list]) => Call::insert(list),
         ("grant", &[r, u]) => Call::Grant(small(r)?, small(u)?),
         ("revoke", &[r, u]) => Call::Revoke(small(r)?, small(u)?),
         ("view", &[u, r]) => Call::View(small(u)?, small(r)?),
@@ -474,6 +527,13 @@ mod tests {
             assert!(done.answer.is_ok(), "{}: {:?}", item.name, done.answer);
             assert_eq!(call_of(&words(item.call)), Some(item.call));
         }
+    }
+
+    #[test]
+    fn a_stack_for_each_call() {
+        let all = stacks_of(&calls("", typical().book.book()));
+        assert_eq!(all.len(), 11);
+        assert!(all.iter().all(|(_, taken)| taken.is_some()), "{all:?}");
     }
 
     #[test]

@@ -1,5 +1,6 @@
 //! One call on both sides, on copies of the same lent memory.
 
+use std::cmp::Ordering;
 use std::collections::BTreeMap;
 use std::fmt;
 
@@ -8,7 +9,7 @@ use fenstubble_reference::refusal::Refusal;
 use crate::engine::Engine;
 use crate::memory::{Cell, Lent, Memory, Place, TABLES};
 use crate::model::Model;
-use crate::side::{Answer, Call, Given, Side};
+use crate::side::{Answer, Call, Given, Side, SET};
 
 /// A call that both sides answered alike.
 #[derive(Clone, Debug)]
@@ -40,8 +41,8 @@ pub struct Difference {
 /// Makes the call on both sides and compares the answers and all that was
 /// lent.
 pub fn compare(call: Call, lent: &Lent) -> Result<Done, Difference> {
-    let mut by_engine = lent.clone();
-    let mut by_model = lent.clone();
+    let mut by_engine = lent.for_call(call);
+    let mut by_model = by_engine.clone();
     let engine = Engine::make(call, &mut by_engine.lend());
     let model = Model::make(call, &mut by_model.lend());
     match (engine, model) {
@@ -54,7 +55,7 @@ pub fn compare(call: Call, lent: &Lent) -> Result<Done, Difference> {
             if engine != model {
                 text += &format!("engine {}, model {}\n", told(&engine), told(&model));
             }
-            text += &differences(&by_engine, &by_model, lent);
+            text += &differences(&by_engine, &by_model, &lent.for_call(call));
             let number = |answer: Answer| {
                 let answer = answer.ok()?;
                 Some(answer.err().map_or(0, |no| no.number))
@@ -92,6 +93,7 @@ fn differences(engine: &Lent, model: &Lent, before: &Lent) -> String {
     text += &difference("the book's bytes", &engine.book, &model.book, &before.book);
     text += &difference("the buffer", &engine.buffer, &model.buffer, &before.buffer);
     text += &difference("the list", &engine.list, &model.list, &before.list);
+    text += &difference("the set", &engine.set, &model.set, &before.set);
     text += &difference(
         "the requests",
         &engine.requests,
@@ -133,6 +135,9 @@ fn difference<T: Cell>(
 #[derive(Clone, Debug, Default, PartialEq, Eq)]
 pub struct Tally {
     answers: BTreeMap<&'static str, [usize; 14]>,
+    /// Inserts whose list was lent as fewer bytes than a set's, as many, and
+    /// more.
+    pub lists: [usize; 3],
 }
 
 impl Tally {
@@ -140,6 +145,14 @@ impl Tally {
     pub fn count(&mut self, call: Call, number: u8) {
         let answers = self.answers.entry(call.name()).or_default();
         answers[usize::from(number).min(13)] += 1;
+        if let Call::Insert(_, length) = call {
+            let place = match length.cmp(&SET) {
+                Ordering::Less => 0,
+                Ordering::Equal => 1,
+                Ordering::Greater => 2,
+            };
+            self.lists[place] += 1;
+        }
     }
 
     /// How often the call of that name got that answer.
@@ -173,6 +186,13 @@ impl fmt::Display for Tally {
             }
             writeln!(f)?;
         }
+        let [fewer, exactly, more] = self.lists;
+        if fewer + exactly + more > 0 {
+            writeln!(
+                f,
+                "lists lent as fewer bytes than a set's {fewer}, as many {exactly}, more {more}"
+            )?;
+        }
         Ok(())
     }
 }
@@ -181,7 +201,7 @@ impl fmt::Display for Tally {
 /// call that is refused or takes none.
 pub fn numbers_needed(call: Call, lent: &Lent) -> usize {
     // More than the orders of any request.
-    let mut ample = lent.clone();
+    let mut ample = lent.for_call(call);
     ample.list = Memory::of(&[0; 3 * 400]);
     match Model::make(call, &mut ample.lend()) {
         Ok(Ok(Given::Orders(rows))) => usize::from(rows) * 3,

@@ -14,7 +14,7 @@ use crate::side::{Answer, Call, Given, Lending, Odd, Side};
 
 /// The declarations, in the order and the words of the header: nothing checks
 /// them against the library.
-mod c {
+pub(crate) mod c {
     /// Declares calls whose five tables, all `const` or all `mut`, stand
     /// between the arguments before them and those after.
     macro_rules! declare {
@@ -38,7 +38,7 @@ mod c {
         fn fenstubble_read(book: *const u8, book_len: usize, head: *mut u16, head_len: usize; mut tables;);
         fn fenstubble_write(head: *const u16, head_len: usize; const tables; buffer: *mut u8, buffer_len: usize, length: *mut usize);
         fn fenstubble_join(head: *mut u16, head_len: usize; mut tables; orders: *mut u16, orders_len: usize, count: *mut u16);
-        fn fenstubble_insert(head: *mut u16, head_len: usize; mut tables; orders: *mut u16, orders_len: usize, count: *mut u16, list: u64);
+        fn fenstubble_insert(head: *mut u16, head_len: usize; mut tables; orders: *mut u16, orders_len: usize, count: *mut u16, list: *const u8, list_len: usize);
         fn fenstubble_grant(head: *mut u16, head_len: usize; mut tables; orders: *mut u16, orders_len: usize, count: *mut u16, resource: u16, user: u16);
         fn fenstubble_revoke(head: *mut u16, head_len: usize; mut tables; orders: *mut u16, orders_len: usize, count: *mut u16, resource: u16, user: u16);
         fn fenstubble_view(head: *const u16, head_len: usize; const tables; user: u16, resource: u16, view: *mut u16);
@@ -54,6 +54,7 @@ mod c {
             start: *mut usize,
             length: *mut usize,
         ) -> u16;
+        pub fn fenstubble_version() -> u32;
     }
 }
 
@@ -107,7 +108,10 @@ impl Side for Engine {
                 c!(fenstubble_write(; lent; buffer, buffer_len, &raw mut length))
             }
             Call::Join => c!(fenstubble_join(; lent; list, list_len, cell)),
-            Call::Insert(set) => c!(fenstubble_insert(; lent; list, list_len, cell, set)),
+            Call::Insert(..) => {
+                let (set, set_len) = (lent.set.as_mut_ptr(), lent.set.len());
+                c!(fenstubble_insert(; lent; list, list_len, cell, set, set_len))
+            }
             Call::Grant(r, u) => c!(fenstubble_grant(; lent; list, list_len, cell, r, u)),
             Call::Revoke(r, u) => c!(fenstubble_revoke(; lent; list, list_len, cell, r, u)),
             Call::View(u, r) => c!(fenstubble_view(; lent; u, r, cell)),
@@ -128,6 +132,12 @@ impl Side for Engine {
             _ => answer(code, [a], |[n]| Given::Orders(n)),
         }
     }
+}
+
+/// The number of the library's version.
+pub fn version() -> u32 {
+    // SAFETY: it takes nothing.
+    unsafe { c::fenstubble_version() }
 }
 
 /// The refusal with that result, if it is one a call can give.

@@ -20,6 +20,7 @@
 //! | [`scripts`] | whole scripts, program against program |
 //! | [`worlds`] | the books that are measured |
 //! | [`bench`], [`clock`] | the measurements; processor time |
+//! | [`stack`] | the stack that a call takes |
 //! | [`command`] | the arguments of the programs |
 //! | `standin` | a stand-in for the library, with faults (feature `self-test`) |
 
@@ -43,6 +44,7 @@ pub mod script;
 pub mod scripts;
 pub mod shrink;
 pub mod side;
+pub mod stack;
 #[cfg(feature = "self-test")]
 pub mod standin;
 pub mod worlds;

@@ -6,7 +6,7 @@ use fenstubble_reference::generate::Random;
 use fenstubble_reference::lent::Tables;
 
 use crate::model::{head_of, numbers_of};
-use crate::side::Lending;
+use crate::side::{Call, Lending, SET};
 
 /// Canaries before a lent stretch. An odd number, so that bytes are lent at
 /// odd addresses.
@@ -176,6 +176,8 @@ pub struct Lent {
     pub buffer: Memory<u8>,
     /// The order list, or the list of an open.
     pub list: Memory<u16>,
+    /// The list of an insert.
+    pub set: Memory<u8>,
     /// The request rows of a serve.
     pub requests: Memory<u64>,
     /// The answer rows of a serve.
@@ -240,6 +242,18 @@ impl Lent {
         })
     }
 
+    /// The same for that call: an insert is lent its list.
+    pub fn for_call(&self, call: Call) -> Lent {
+        let mut lent = self.clone();
+        if let Call::Insert(list, length) = call {
+            let mut bytes = list.to_le_bytes().to_vec();
+            bytes.extend(Filler::Noise(list).bytes(length.saturating_sub(SET)));
+            bytes.truncate(length);
+            lent.set = Memory::of(&bytes);
+        }
+        lent
+    }
+
     /// Lends all of it.
     pub fn lend(&mut self) -> Lending<'_> {
         let [inner_vertices, inner_tokens, outer_vertices, outer_tokens, resources] =
@@ -256,6 +270,7 @@ impl Lent {
             book: self.book.lend(),
             buffer: self.buffer.lend(),
             list: self.list.lend(),
+            set: self.set.lend(),
             requests: self.requests.lend(),
             answers: self.answers.lend(),
         }
@@ -284,6 +299,19 @@ mod tests {
             let (found, _, _) = memory.difference(&other).unwrap();
             assert_eq!(found, place);
         }
+    }
+
+    #[test]
+    fn a_list_in_bytes() {
+        let list = 1 << 63 | 1 << 8 | 1;
+        let lent = |length| Lent::default().for_call(Call::Insert(list, length)).set;
+        assert_eq!(lent(SET).content(), [1, 1, 0, 0, 0, 0, 0, 0x80]);
+        assert_eq!(lent(3).content(), [1, 1, 0]);
+        assert_eq!(lent(0).content(), []);
+        let longer = lent(20);
+        assert_eq!(longer.len(), 20);
+        assert_eq!(longer.content()[..SET], *lent(SET).content());
+        assert!(longer.content()[SET..].iter().any(|&byte| byte != 0));
     }
 
     #[test]

@@ -1,5 +1,6 @@
 //! The reference program's lent face in the shape of the C interface: the
-//! head is lent numbers, a section is a start and a length.
+//! head is lent numbers, a list is lent bytes, a section is a start and a
+//! length.
 
 use fenstubble_reference::book::Head;
 use fenstubble_reference::lent;
@@ -22,6 +23,15 @@ pub fn head_of(numbers: &[u16]) -> Result<Head, Refusal> {
             })
         }
         _ => Err(Refusal::TABLE_SHORT),
+    }
+}
+
+/// The list in the bytes of a set, user 0 the lowest bit of the first; those
+/// past them do not count. Refusal 13 if there are fewer.
+pub fn list_of(bytes: &[u8]) -> Result<u64, Refusal> {
+    match bytes.first_chunk() {
+        Some(set) => Ok(u64::from_le_bytes(*set)),
+        None => Err(Refusal::TABLE_SHORT),
     }
 }
 
@@ -74,7 +84,7 @@ fn make(call: Call, lent: &mut Lending) -> Result<Given, Refusal> {
             (lent::read(lent.book, tables)?, Given::Nothing)
         }
         Call::Join => ordered(lent::join(&before?, tables, list)?),
-        Call::Insert(set) => ordered(lent::insert(&before?, tables, set, list)?),
+        Call::Insert(..) => ordered(lent::insert(&before?, tables, list_of(lent.set)?, list)?),
         Call::Grant(r, u) => ordered(lent::grant(&before?, tables, r, u, list)?),
         Call::Revoke(r, u) => ordered(lent::revoke(&before?, tables, r, u, list)?),
         Call::Serve => {

@@ -18,7 +18,7 @@ use crate::limits::{self, of_size, Counts};
 use crate::memory::{Filler, Lent, Memory};
 use crate::report::{random_of, Bounds, Report, Session};
 use crate::shrink::Case;
-use crate::side::{Call, Given};
+use crate::side::{Call, Given, SET};
 use crate::worlds::{large, LARGEST, NEARLY};
 
 /// What was compared.
@@ -161,7 +161,8 @@ impl Requests {
     }
 
     /// The call with lists that are too short for its answer, sometimes, and
-    /// then with one that is not.
+    /// then with one that is not; before an insert, sometimes, one with too few
+    /// bytes.
     fn step(&mut self, world: &mut World, random: &mut Random, call: Call) -> Outcome {
         let Some(request) = request_of(call) else {
             return self.ask(world, call, 0).map(drop);
@@ -170,6 +171,13 @@ impl Requests {
         let row = if matches!(call, Call::Open(..)) { 1 } else { 3 };
         let answer = after.answer(&request, usize::MAX);
         let needed = answer.map_or(0, |answer| answer.count() * row);
+        let mut call = call;
+        if let Call::Insert(list, _) = call {
+            if random.chance(1, 4) {
+                self.ask(world, Call::Insert(list, random.below(SET)), needed)?;
+            }
+            call = Call::Insert(list, enough_bytes(random));
+        }
         if needed > 0 && random.chance(1, 3) {
             let short = match random.below(4) {
                 0 | 1 => needed - row,
@@ -264,17 +272,17 @@ impl Requests {
                     }
                 }
                 for bit in 0..64 {
-                    self.step(&mut world, random, Call::Insert(1 << bit))?;
-                    self.step(&mut world, random, Call::Insert(1 << bit | 1))?;
-                    self.step(&mut world, random, Call::Insert(u64::MAX >> bit))?;
+                    self.step(&mut world, random, Call::insert(1 << bit))?;
+                    self.step(&mut world, random, Call::insert(1 << bit | 1))?;
+                    self.step(&mut world, random, Call::insert(u64::MAX >> bit))?;
                 }
-                self.step(&mut world, random, Call::Insert(0))?;
+                self.step(&mut world, random, Call::insert(0))?;
             }
         }
         Ok(())
     }
 
-    /// Heads and tables that are too short, just long enough, and longer.
+    /// Heads, tables and sets that are too short, just long enough, and longer.
     fn other_lengths(&mut self, random: &mut Random) -> Outcome {
         for mode in [Mode::Delta, Mode::Full] {
             let clean = Lent::of(&sample(mode), Filler::any(random));
@@ -297,14 +305,16 @@ impl Requests {
             self.summary.worlds += all.len();
             for mut lent in all {
                 lent.list = Memory::of(&[0xB2B2; 30]);
+                for length in (0..2 * SET).chain([4 * SET]) {
+                    self.session.compare(Call::Insert(6, length), &lent)?;
+                }
                 for call in [
                     Call::Join,
-                    Call::Insert(6),
                     Call::Grant(0, 1),
                     Call::Revoke(0, 0),
                     Call::View(2, 1),
                     Call::Open(0, 0),
-                    Call::Insert(0),
+                    Call::insert(0),
                     Call::Grant(99, 99),
                     Call::Revoke(99, 99),
                     Call::View(99, 99),
@@ -343,10 +353,10 @@ impl Requests {
             };
             let mut world = self.world(random, sound(limits::book(mode, &counts)));
             for list in [1, 3, 31, 7, 1, 0, 32, 33, u64::MAX, 5] {
-                self.step(&mut world, random, Call::Insert(list))?;
+                self.step(&mut world, random, Call::insert(list))?;
             }
             for list in [0, 1, 6, 32] {
-                self.ask(&mut world, Call::Insert(list), 0)?;
+                self.ask(&mut world, Call::insert(list), 0)?;
             }
             self.steps(&mut world, random, 60, 6)?;
         }
@@ -383,8 +393,8 @@ impl Requests {
             self.refused(&mut world, call_of(&walk(n, false)))?;
             self.step(&mut world, random, call_of(&walk(n - 1, true)))?;
             self.step(&mut world, random, Call::Join)?;
-            self.refused(&mut world, Call::Insert(1 << 10 | 1))?;
-            self.step(&mut world, random, Call::Insert(1 << 10))?;
+            self.refused(&mut world, Call::insert(1 << 10 | 1))?;
+            self.step(&mut world, random, Call::insert(1 << 10))?;
             self.steps(&mut world, random, 60, 12)?;
         }
         Ok(())
@@ -401,14 +411,14 @@ impl Requests {
         let mut world = self.world(random, book.clone());
         for _ in 0..2 {
             let list = of_size(random, 32);
-            self.step(&mut world, random, Call::Insert(list.0))?;
+            self.step(&mut world, random, Call::insert(list.0))?;
         }
         for size in [2, 40] {
             let list = of_size(random, size);
-            self.refused(&mut world, Call::Insert(list.0))?;
+            self.refused(&mut world, Call::insert(list.0))?;
         }
         let there = world.book.book().inner_vertices[100];
-        self.step(&mut world, random, Call::Insert(there.0))?;
+        self.step(&mut world, random, Call::insert(there.0))?;
         self.steps(&mut world, random, 12, 64)?;
 
         // By grants: to 4096, one token each.
@@ -436,7 +446,7 @@ impl Requests {
         }
         let mut world = self.world(random, book);
         let list = of_size(random, 33);
-        self.step(&mut world, random, Call::Insert(list.0))?;
+        self.step(&mut world, random, Call::insert(list.0))?;
         let listed = |world: &World, r: usize| world.book.book().resources[r].list;
         let first = |set: UserSet| set.users().next().map_or(0, |user| user.0);
         let user = first(listed(&world, 0));
@@ -447,11 +457,11 @@ impl Requests {
         self.refused(&mut world, Call::Grant(1, outside))?;
         for size in [2, 33] {
             let list = of_size(random, size);
-            self.refused(&mut world, Call::Insert(list.0))?;
+            self.refused(&mut world, Call::insert(list.0))?;
         }
         let there = listed(&world, 5);
-        self.step(&mut world, random, Call::Insert(there.0))?;
-        self.step(&mut world, random, Call::Insert(8))?;
+        self.step(&mut world, random, Call::insert(there.0))?;
+        self.step(&mut world, random, Call::insert(8))?;
         let last = world.book.book().head().resources - 1;
         self.step(&mut world, random, Call::Revoke(last, 3))?;
         self.steps(&mut world, random, 12, 64)
@@ -468,7 +478,7 @@ impl Requests {
                 let mut world = self.world(random, sound(limits::book(mode, &counts)));
                 for size in [40, 2] {
                     let list = of_size(random, size).common(world.book.book().joined());
-                    self.step(&mut world, random, Call::Insert(list.0))?;
+                    self.step(&mut world, random, Call::insert(list.0))?;
                 }
                 for _ in 0..2 {
                     let user = random.below(64) as u16;
@@ -489,7 +499,7 @@ impl Requests {
     fn long_chains(&mut self, random: &mut Random) -> Outcome {
         let mut world = self.world(random, joined(Mode::Full, 64));
         for count in 2..=64 {
-            self.step(&mut world, random, Call::Insert(UserSet::first(count).0))?;
+            self.step(&mut world, random, Call::insert(UserSet::first(count).0))?;
         }
         for user in 0..64 {
             self.step(&mut world, random, Call::Open(user, 62))?;
@@ -686,7 +696,10 @@ impl Requests {
                 lent.answers = Memory::of(&filler.numbers(random.below(9)));
                 Call::Serve
             } else {
-                some_call(random, &book, 64)
+                match some_call(random, &book, 64) {
+                    Call::Insert(list, _) => Call::Insert(list, random.below(2 * SET)),
+                    call => call,
+                }
             };
             let numbers = [0, 2, 3, 30, 1200][random.below(5)];
             lent.list = Memory::of(&filler.numbers(numbers));
@@ -741,6 +754,14 @@ fn odd_row(random: &mut Random, mut row: [u64; 3]) -> [u64; 3] {
     row
 }
 
+/// As many bytes as a list is lent as, or more.
+fn enough_bytes(random: &mut Random) -> usize {
+    match random.below(3) {
+        0 => random.between(SET + 1, 4 * SET),
+        _ => SET,
+    }
+}
+
 /// The call as a request; a view is none.
 fn request_of(call: Call) -> Option<Request> {
     (!matches!(call, Call::View(..))).then(|| carried(call))
@@ -749,7 +770,7 @@ fn request_of(call: Call) -> Option<Request> {
 /// A request with the numbers of the call; for a view, an open.
 fn carried(call: Call) -> Request {
     match call {
-        Call::Insert(list) => Request::Insert(List::from(UserSet(list))),
+        Call::Insert(list, _) => Request::Insert(List::from(UserSet(list))),
         Call::Grant(r, u) => Request::Grant(Resource(r), User(u)),
         Call::Revoke(r, u) => Request::Revoke(Resource(r), User(u)),
         Call::Open(u, r) | Call::View(u, r) => Request::Open(User(u), Resource(r)),
@@ -762,16 +783,18 @@ fn call_of(request: &Request) -> Call {
     match *request {
         Request::Join => Call::Join,
         // A set can not name a user above 63.
-        Request::Insert(list) => Call::Insert(list.set.0),
+        Request::Insert(list) => Call::insert(list.set.0),
         Request::Grant(r, u) => Call::Grant(r.0, u.0),
         Request::Revoke(r, u) => Call::Revoke(r.0, u.0),
         Request::Open(u, r) => Call::Open(u.0, r.0),
     }
 }
 
-/// The request as a call like that one: an open is a view again, if it was.
+/// The request as a call like that one: an open is a view again, if it was,
+/// and a list is lent as as many bytes.
 fn like(call: Call, request: &Request) -> Call {
     match (call, call_of(request)) {
+        (Call::Insert(_, length), Call::Insert(list, _)) => Call::Insert(list, length),
         (Call::View(..), Call::Open(u, r)) => Call::View(u, r),
         (_, other) => other,
     }
@@ -824,7 +847,7 @@ fn odd_call(random: &mut Random, book: &Book) -> Call {
             let all = book.joined().0;
             let some = random.next() & all;
             let bit = 1u64.checked_shl(u32::from(u)).unwrap_or(0);
-            Call::Insert([0, all, some, some | bit, bit, 1 << 63, u64::MAX][random.below(7)])
+            Call::insert([0, all, some, some | bit, bit, 1 << 63, u64::MAX][random.below(7)])
         }
     }
 }

@@ -10,7 +10,7 @@ use fenstubble_reference::sets::UserSet;
 
 use crate::compare::{compare, numbers_needed, Difference};
 use crate::memory::{Lent, Memory, TABLES};
-use crate::side::Call;
+use crate::side::{Call, SET};
 
 /// How many smaller cases are tried at most.
 const TRIES: usize = 4000;
@@ -70,6 +70,9 @@ impl Case {
         for (k, table) in case.lent.tables.iter_mut().enumerate() {
             let length = table.len().min(LIMITS[k] * WIDTHS[k]);
             *table = Memory::of(&table.content()[..length]);
+        }
+        if let Call::Insert(list, length) = self.call {
+            case.call = Call::Insert(list, length.min(SET));
         }
         case
     }
@@ -178,6 +181,12 @@ impl fmt::Display for Case {
             if lent.tables[k].len() != LIMITS[k] * WIDTHS[k] {
                 writeln!(f, "a table of {} bytes: {name}", lent.tables[k].len())?;
             }
+        }
+        match self.call {
+            Call::Insert(_, length) if length != SET => {
+                writeln!(f, "a set lent as {length} bytes")?;
+            }
+            _ => {}
         }
         match self.call {
             Call::Read => return Ok(()),

@@ -3,9 +3,13 @@
 
 use std::fmt;
 
+use fenstubble_reference::bytes::WIDTHS;
 use fenstubble_reference::lent::Tables;
 use fenstubble_reference::refusal::Refusal;
 use fenstubble_reference::sets::UserSet;
+
+/// The bytes of a set: those of a row of inner vertices.
+pub const SET: usize = WIDTHS[0];
 
 /// A call with its numbers.
 #[derive(Clone, Copy, Debug, PartialEq, Eq)]
@@ -20,8 +24,9 @@ pub enum Call {
     Write,
     /// Join.
     Join,
-    /// Insert a list.
-    Insert(u64),
+    /// Insert a list, lent as so many bytes: the set's as far as they go, then
+    /// noise. The sides look at the bytes alone.
+    Insert(u64, usize),
     /// Grant a resource to a user.
     Grant(u16, u16),
     /// Revoke a resource from a user.
@@ -35,6 +40,11 @@ pub enum Call {
 }
 
 impl Call {
+    /// Insert a list, lent as the bytes of a set and no more.
+    pub fn insert(list: u64) -> Call {
+        Call::Insert(list, SET)
+    }
+
     /// The call's name.
     pub fn name(self) -> &'static str {
         match self {
@@ -43,7 +53,7 @@ impl Call {
             Call::Read => "read",
             Call::Write => "write",
             Call::Join => "join",
-            Call::Insert(_) => "insert",
+            Call::Insert(..) => "insert",
             Call::Grant(..) => "grant",
             Call::Revoke(..) => "revoke",
             Call::View(..) => "view",
@@ -59,7 +69,7 @@ impl fmt::Display for Call {
         write!(f, "{}", self.name())?;
         match *self {
             Call::Section(k) => write!(f, " {k}"),
-            Call::Insert(list) => UserSet(list)
+            Call::Insert(list, _) => UserSet(list)
                 .users()
                 .try_for_each(|user| write!(f, " {}", user.0)),
             Call::Grant(a, b) | Call::Revoke(a, b) | Call::View(a, b) | Call::Open(a, b) => {
@@ -118,6 +128,8 @@ pub struct Lending<'a> {
     pub buffer: &'a mut [u8],
     /// The order list, or the list of an open.
     pub list: &'a mut [u16],
+    /// The list of an insert, as a set's bytes; fewer are refused with 13.
+    pub set: &'a mut [u8],
     /// The request rows of a serve.
     pub requests: &'a mut [u64],
     /// The answer rows of a serve.

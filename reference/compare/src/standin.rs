@@ -10,7 +10,7 @@ use std::slice::from_raw_parts_mut;
 use fenstubble_reference::lent::Tables;
 
 use crate::model::Model;
-use crate::side::{Call, Given, Lending, Side};
+use crate::side::{Call, Given, Lending, Side, SET};
 
 /// What is wrong with the stand-in.
 #[derive(Clone, Copy, Debug, PartialEq, Eq)]
@@ -57,6 +57,12 @@ pub enum Fault {
     FirstAlone,
     /// Serving forgets the rows of an open.
     OpenUnused,
+    /// A list of one byte less than a set's is taken.
+    ShortSet,
+    /// A byte past those of a set names users too, who did not join.
+    LongSet,
+    /// An insert clears the last byte of its list.
+    SetCleared,
 }
 
 thread_local! {
@@ -143,6 +149,7 @@ fn nothing<'a>() -> Lending<'a> {
         book: &mut [],
         buffer: &mut [],
         list: &mut [],
+        set: &mut [],
         requests: &mut [],
         answers: &mut [],
     }
@@ -190,6 +197,11 @@ with_tables! {
         }
         reply(Call::Check, lent).0
     }
+}
+
+#[no_mangle]
+extern "C" fn fenstubble_version() -> u32 {
+    10000
 }
 
 #[no_mangle]
@@ -274,9 +286,24 @@ with_tables! {
 }
 
 with_tables! {
-    fn fenstubble_insert(; mut lent; orders: *mut u16, orders_len: usize, count: *mut u16, list: u64) {
+    fn fenstubble_insert(; mut lent; orders: *mut u16, orders_len: usize, count: *mut u16, list: *const u8, list_len: usize) {
         lent.list = slice(orders, orders_len);
-        ordered(Call::Insert(list), lent, &mut *count)
+        lent.set = slice(list, list_len);
+        if list_len + 1 == SET && planted(Fault::ShortSet) {
+            lent.set = Vec::leak([&*lent.set, &[0]].concat());
+        }
+        let call = Call::insert(0);
+        if planted(Fault::LongSet) && lent.set.iter().skip(SET).any(|&byte| byte != 0) {
+            put(call, 1, &mut [(&mut *count, 0)]);
+            return 1;
+        }
+        let code = ordered(call, lent, &mut *count);
+        if planted(Fault::SetCleared) {
+            if let Some(byte) = lent.set.last_mut() {
+                *byte = 0;
+            }
+        }
+        code
     }
 }
 

@@ -175,6 +175,18 @@ fn revoke_of(book: &Book, granted: usize, tokens: usize, last: bool) -> (Resourc
     nearest.expect("enough folders to revoke from").1
 }
 
+/// 64 people and lists of the first two, three and so on: the first opens the
+/// last folder by 63 rows in each layer, the most there can be.
+pub fn chained() -> SoundBook {
+    let mut book = SoundBook::empty(Mode::Full);
+    let joins = (0..64).map(|_| Request::Join);
+    let lists = (2..=64).map(|count| Request::Insert(UserSet::first(count).into()));
+    for request in joins.chain(lists) {
+        let _ = book.answer(&request, usize::MAX);
+    }
+    book
+}
+
 /// So many random users of a set.
 fn some_users(random: &mut Random, all: UserSet, count: usize) -> UserSet {
     let mut set = UserSet::EMPTY;
@@ -272,6 +284,14 @@ mod tests {
         }
         assert_eq!(again, run.book);
         assert_eq!(sound(&shuffled(book)), Ok(()));
+    }
+
+    #[test]
+    fn the_longest_chains() {
+        let mut book = chained();
+        let open = Request::Open(User(0), Resource(62));
+        let answer = book.answer(&open, usize::MAX).unwrap();
+        assert_eq!(answer.count(), 2 * 63);
     }
 
     #[test]

@@ -148,6 +148,9 @@ mod requests {
             (Fault::ChainsSwapped, "open", "engine Chains("),
             (Fault::FirstAlone, "serve", "the answers at"),
             (Fault::OpenUnused, "serve", "engine Used("),
+            (Fault::ShortSet, "insert", "model no 13"),
+            (Fault::LongSet, "insert", "engine no 1, model Orders("),
+            (Fault::SetCleared, "insert", "the set at"),
         ] {
             let report = found(fault, requests::run);
             assert!(report.call.starts_with(call), "{fault:?}: {report}");

@@ -2,8 +2,14 @@
 
 use std::time::Duration;
 
+use fenstubble_compare::engine;
 use fenstubble_compare::report::Bounds;
 use fenstubble_compare::requests;
+
+#[test]
+fn the_version() {
+    assert_eq!(engine::version(), 10000);
+}
 
 #[test]
 fn requests_alike() {
@@ -38,6 +44,8 @@ fn requests_alike() {
     for number in [0, 1, 4, 5, 6, 10, 11] {
         assert!(summary.served[number] > 0, "{number}: {summary}");
     }
+    let lists = summary.tally.lists;
+    assert!(lists.iter().all(|&count| count > 100), "{summary}");
     assert_eq!(summary.longest, [63, 63]);
     assert!(summary.most_orders >= 324, "{summary}");
 }
