@@ -19,7 +19,7 @@ import struct
 from enum import IntEnum
 from itertools import count, islice
 from pathlib import Path
-from typing import Iterable, Iterator, NamedTuple, Optional, Sequence, Union
+from typing import Callable, Iterable, Iterator, NamedTuple, Optional, Sequence, Union
 
 VERSION = 10000  # that this module is written for: major * 10000 + minor * 100 + patch
 USERS, RESOURCES, INNER_TOKENS, OUTER_TOKENS, OUTER_GROUPS = 64, 256, 4096, 4096, 448  # the limits; a resource is a folder
@@ -173,7 +173,7 @@ _BOOK = (_NUMBERS, _LENGTH) + (_BYTES, _LENGTH) * 5
 _ORDERS = (_NUMBERS, _LENGTH, _NUMBERS)
 
 
-def _declare(name: str, *types: type):
+def _declare(name: str, *types: type) -> Callable[..., int]:
     call = getattr(_library, "fenstubble_" + name)
     call.argtypes, call.restype = types, ctypes.c_uint16
     return call
@@ -362,7 +362,7 @@ class Book:
     def _lent(self) -> list[object]:
         return [self._head, HEAD_LEN] + [part for table in self._tables for part in (table, len(table))]
 
-    def _request(self, call, *arguments: object) -> list[Order]:
+    def _request(self, call: Callable[..., int], *arguments: object) -> list[Order]:
         orders, given = (ctypes.c_uint16 * (ORDER_ROWS * ORDER_WIDTH))(), ctypes.c_uint16()
         _take(call(*self._lent(), orders, len(orders), given, *arguments))
         return _orders(orders[: given.value * ORDER_WIDTH])

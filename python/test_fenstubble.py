@@ -328,16 +328,12 @@ class Header(Case):
         self.assertEqual(fenstubble.reason(15), "no such refusal")
 
     def test_constants(self) -> None:
-        numbers = {name: self.value(text) for name, text in re.findall(r"#define FENSTUBBLE_(\w+) (\(.*?\)(?= |$)|\w+)", HEADER, re.M) if not text[0].isalpha()}
+        numbers = {name: int(text) for name, text in re.findall(r"#define FENSTUBBLE_(\w+) (\d+)", HEADER)}
         for name in ("VERSION", "USERS", "RESOURCES", "INNER_TOKENS", "OUTER_TOKENS", "OUTER_GROUPS", "SET_BYTES", "HEAD_LEN", "ORDER_WIDTH", "ORDER_ROWS", "OPEN_ROWS"):
             self.assertEqual(getattr(fenstubble, name), numbers[name], name)
         self.assertEqual((fenstubble.BOOK_BYTES, fenstubble.NO_OUTER), (numbers["BOOK_BYTES"], numbers["NO_OUTER"]))
         self.assertEqual(fenstubble.version(), fenstubble.VERSION)
         self.assertEqual(fenstubble.BOOK_BYTES, 17 + sum(rows * width for rows, width in zip(fenstubble.ROWS, fenstubble.WIDTHS)))
-
-    @staticmethod
-    def value(text: str) -> int:
-        return int(text) if text.isdigit() else 0
 
     def test_enums(self) -> None:
         pairs = dict(re.findall(r"FENSTUBBLE_(\w+) = (\d+)", HEADER))

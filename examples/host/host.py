@@ -25,7 +25,10 @@ from nacl.secret import SecretBox
 
 if "FENSTUBBLE_PREFIX" in os.environ:  # where ./install put the module
     sys.path.insert(0, os.path.join(os.environ["FENSTUBBLE_PREFIX"], "share", "fenstubble"))
-from fenstubble import NO_OUTER, Answer, Book, Kind, Mode, Order, Token
+try:
+    from fenstubble import NO_OUTER, Answer, Book, Kind, Mode, Order, Token
+except ModuleNotFoundError as error:
+    raise ImportError("there is no module fenstubble: FENSTUBBLE_PREFIX names the folder that ./install put it under") from error
 
 NEW = ".new"  # ends the name of a file that is being written
 KEY_BYTES = 32

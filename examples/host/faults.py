@@ -1,0 +1,114 @@
+"""Hosts and disks with a planted fault each, which `drill` must find."""
+from __future__ import annotations
+
+import os
+from pathlib import Path
+from typing import Callable, NamedTuple, Optional
+
+import host as hosting
+from host import NEW, Host, Keys, Owner, Pending, Storage
+from machine import Machine
+from fenstubble import Answer, Book
+
+
+class EarlyHost(Host):
+    def request(self, word: str, ask: Callable[[Book], Answer], text: Optional[bytes] = None) -> int:
+        book = self.book.copy()
+        number, orders = ask(book)
+        if text is not None:
+            self.owner.stage(number, text)
+        for order in orders:
+            self.obey(order, Pending(word, number, orders))
+            self.disk.stop("obeyed", self.root)
+        self.keep(book, None)
+        self.owner.clear_stages()
+        return number
+
+
+class AnewKeys(Keys):
+    def make(self, vertex: int) -> None:
+        self.disk.replace(self.path(vertex), os.urandom(hosting.KEY_BYTES))
+
+
+class AnewKeysHost(Host):
+    keys_class = AnewKeys
+
+
+class BareOwner(Owner):
+    def encrypt(self, folder: int, inner: int) -> None:
+        text = (self.stages / str(folder)).read_bytes()
+        self.storage.put(hosting.Locked(folder, inner, None).filled(hosting.access_key(self.keys.key(inner)), text))
+
+
+class BareHost(Host):
+    owner_class = BareOwner
+
+
+class GapStorage(Storage):
+    def lock(self, folder: int, outer: Optional[int]) -> None:
+        if self.locked(folder).outer != outer:
+            super().lock(folder, None)
+            super().lock(folder, outer)
+
+
+class GapHost(Host):
+    storage_class = GapStorage
+
+
+class ForgetfulHost(Host):
+    def recover(self) -> None:
+        self.pending = None
+        super().recover()
+
+
+class TrustingHost(Host):
+    def recover(self) -> None:
+        for file in sorted(self.root.rglob("*" + NEW)):
+            self.disk.remove(file)
+        self.finish()
+
+
+class UntidyHost(Host):
+    def recover(self) -> None:
+        if self.pending is not None:
+            self.finish()
+
+
+class InPlaceMachine(Machine):
+    def replace(self, path: Path, data: bytes) -> None:
+        self.stop("before", path)
+        path.write_bytes(data[: len(data) // 2])
+        self.stop("half", path)
+        path.write_bytes(data)
+        self.stop("renamed", path)
+        self.stop("kept", path)
+
+
+class UnsyncedMachine(Machine):
+    def sync(self, file: int) -> None:
+        pass
+
+
+class UnkeptMachine(Machine):
+    def sync_folder(self, folder: Path) -> None:
+        pass
+
+
+class Fault(NamedTuple):
+    says: str
+    host: type[Host] = Host
+    machine: type[Machine] = Machine
+
+
+FAULTS = {
+    "early": Fault("orders are obeyed before the book is replaced", host=EarlyHost),
+    "anew": Fault("a key is made anew when its order is obeyed again", host=AnewKeysHost),
+    "bare": Fault("encrypting obeyed again takes the outer lock off", host=BareHost),
+    "gap": Fault("a folder's old outer lock comes off before its new one goes on", host=GapHost),
+    "forgetful": Fault("a host that starts does not obey what is pending", host=ForgetfulHost),
+    "trusting": Fault("a host that starts does not sync what it finds", host=TrustingHost),
+    "untidy": Fault("a host that starts leaves files that are half written, and staged texts", host=UntidyHost),
+    "in-place": Fault("files are written in place", machine=InPlaceMachine),
+    "unsynced": Fault("files are not synced before they are renamed", machine=UnsyncedMachine),
+    "unkept": Fault("folders are not synced after a rename", machine=UnkeptMachine),
+}
