@@ -1,3 +1,4 @@
+# SPDX-License-Identifier: Apache-2.0
 """Fenstubble's calls for Python: a book in memory, and the requests on it.
 
     >>> from fenstubble import Book, Mode
@@ -28,7 +29,8 @@ WIDTHS = (SET_BYTES, 5, SET_BYTES, 4, SET_BYTES + 4)  # bytes of a row: inner ve
 ROWS = (USERS + RESOURCES, INNER_TOKENS, USERS + OUTER_GROUPS, OUTER_TOKENS, RESOURCES)  # rows of the lent tables
 HEAD_LEN = 7  # mode, users, folders, inner vertices, inner tokens, outer vertices, outer tokens
 ORDER_WIDTH, ORDER_ROWS = 3, 385  # numbers of an order row; rows that no request exceeds
-OPEN_ROWS = 126  # rows that no open exceeds, both chains together
+CHAIN_ROWS = 63  # tokens that no chain exceeds, in either layer
+OPEN_ROWS = 2 * CHAIN_ROWS  # rows that no open exceeds, both chains together
 BOOK_BYTES = 46609  # of the largest book
 NO_OUTER = 65535  # in the place of an outer vertex: none
 NOBODY = 65535  # as a user, folder or section: one that never exists

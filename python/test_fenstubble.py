@@ -48,7 +48,7 @@ class Case(unittest.TestCase):
 
 class Requests(Case):
     def test_paper(self) -> None:
-        """P1 to P8 of the paper, in one run."""
+        """P1 to P8 of RULES 11, in one run."""
         book = Book(Mode.DELTA)
         self.assertEqual(book.to_bytes(), b"TKB\x01\x00\x01" + bytes(11))
         self.assertEqual([book.join() for _ in range(3)], [Answer(user, [Order(Kind.INNER_KEY, user, 0), Order(Kind.OUTER_KEY, user, 0)]) for user in range(3)])
@@ -329,7 +329,7 @@ class Header(Case):
 
     def test_constants(self) -> None:
         numbers = {name: int(text) for name, text in re.findall(r"#define FENSTUBBLE_(\w+) (\d+)", HEADER)}
-        for name in ("VERSION", "USERS", "RESOURCES", "INNER_TOKENS", "OUTER_TOKENS", "OUTER_GROUPS", "SET_BYTES", "HEAD_LEN", "ORDER_WIDTH", "ORDER_ROWS", "OPEN_ROWS"):
+        for name in ("VERSION", "USERS", "RESOURCES", "INNER_TOKENS", "OUTER_TOKENS", "OUTER_GROUPS", "SET_BYTES", "HEAD_LEN", "ORDER_WIDTH", "ORDER_ROWS", "CHAIN_ROWS"):
             self.assertEqual(getattr(fenstubble, name), numbers[name], name)
         self.assertEqual((fenstubble.BOOK_BYTES, fenstubble.NO_OUTER), (numbers["BOOK_BYTES"], numbers["NO_OUTER"]))
         self.assertEqual(fenstubble.version(), fenstubble.VERSION)

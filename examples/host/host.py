@@ -20,13 +20,16 @@ from contextlib import contextmanager
 from pathlib import Path
 from typing import Callable, Iterable, Iterator, NamedTuple, Optional
 
-from nacl.exceptions import CryptoError
-from nacl.secret import SecretBox
+try:
+    from nacl.exceptions import CryptoError
+    from nacl.secret import SecretBox
+except ModuleNotFoundError as error:
+    raise ImportError("there is no module nacl: Debian has it in the package python3-nacl") from error
 
 if "FENSTUBBLE_PREFIX" in os.environ:  # where ./install put the module
     sys.path.insert(0, os.path.join(os.environ["FENSTUBBLE_PREFIX"], "share", "fenstubble"))
 try:
-    from fenstubble import NO_OUTER, Answer, Book, Kind, Mode, Order, Token
+    from fenstubble import NO_OUTER, Answer, Book, Kind, Mode, Order, Refused, Token
 except ModuleNotFoundError as error:
     raise ImportError("there is no module fenstubble: FENSTUBBLE_PREFIX names the folder that ./install put it under") from error
 
@@ -45,8 +48,20 @@ class Busy(Exception):
 # ---- ciphers
 
 
+def key_in(path: Path) -> bytes:
+    key = path.read_bytes()
+    if len(key) != KEY_BYTES:
+        raise Damaged(f"{path} is not a key")
+    return key
+
+
 def keyed_hash(use: bytes, key: bytes, data: bytes = b"", size: int = KEY_BYTES) -> bytes:
     return hashlib.blake2b(data, key=key, person=use, digest_size=size).digest()
+
+
+def box_of(key: bytes) -> SecretBox:
+    """The box that a key locks. Its own key is a hash of that one, so that no key is used by two ciphers."""
+    return SecretBox(keyed_hash(b"box", key))
 
 
 def access_key(derivation_key: bytes) -> bytes:
@@ -81,7 +96,7 @@ def follow(source: bytes, token: bytes) -> Optional[bytes]:
 def unlock(key: bytes, box: bytes) -> Optional[bytes]:
     """What is in the box; None where this key does not open it."""
     try:
-        return SecretBox(key).decrypt(box)
+        return box_of(key).decrypt(box)
     except CryptoError:
         return None
 
@@ -117,7 +132,7 @@ class Locked(NamedTuple):
         return locked
 
     def filled(self, key: bytes, content: bytes) -> Locked:
-        return self._replace(box=bytes(SecretBox(key).encrypt(self.line() + content)))
+        return self._replace(box=bytes(box_of(key).encrypt(self.line() + content)))
 
     def content(self, key: bytes) -> bytes:
         found = unlock(key, self.box)
@@ -202,7 +217,7 @@ class Keys:
             self.disk.replace(self.path(vertex), os.urandom(KEY_BYTES))
 
     def key(self, vertex: int) -> bytes:
-        return self.path(vertex).read_bytes()
+        return key_in(self.path(vertex))
 
     def path(self, vertex: int) -> Path:
         return self.folder / str(vertex)
@@ -306,7 +321,7 @@ class Person:
         return locked.content(key if led_to_access else access_key(key))
 
     def along(self, layer: str, names: list[str]) -> bytes:
-        key = (self.folder / layer).read_bytes()
+        key = key_in(self.folder / layer)
         for name in names:
             target = follow(key, (self.public / "tokens" / name).read_bytes())
             if target is None:
@@ -460,9 +475,12 @@ def state_bytes(book: Book, pending: Optional[Pending]) -> bytes:
 
 
 def state_from(data: bytes) -> tuple[Book, Optional[Pending]]:
-    said = json.loads(data)
-    book = Book.from_bytes(bytes.fromhex(said["book"]))
-    if said["pending"] is None:
-        return book, None
-    word, number, orders = said["pending"]
-    return book, Pending(word, number, [Order(Kind(kind), a, b) for kind, a, b in orders])
+    try:
+        said = json.loads(data)
+        book = Book.from_bytes(bytes.fromhex(said["book"]))
+        if said["pending"] is None:
+            return book, None
+        word, number, orders = said["pending"]
+        return book, Pending(word, number, [Order(Kind(kind), a, b) for kind, a, b in orders])
+    except (ValueError, KeyError, TypeError, Refused) as error:
+        raise Damaged(f"owner/book is not a book with its orders: {error}") from error

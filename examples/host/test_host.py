@@ -202,6 +202,45 @@ class Hosts(Case):
             self.assertEqual(self.content(), before)
             host.grant(0, 2)
 
+    def test_keys_damaged(self) -> None:
+        """A key that is too short or too long is never used; once it is mended, the host goes on."""
+        for name, request in (("owner/keys/1", lambda host: host.insert({1, 2}, b"more")), ("storage/keys/0", lambda host: host.revoke(0, 1))):
+            file = self.root / name
+            key = file.read_bytes()
+            with Host(self.root) as host:
+                file.write_bytes(b"")
+                before = self.content()
+                self.assertRaises(Damaged, request, host)
+            public = str(self.root / "storage" / "public")
+            self.assertEqual({path: data for path, data in self.content().items() if path.startswith(public)}, {path: data for path, data in before.items() if path.startswith(public)})
+            for wrong in (b"", key[:-1], key + b"x"):
+                file.write_bytes(wrong)
+                self.assertRaises(Damaged, Host, self.root)
+            file.write_bytes(key)
+            with Host(self.root) as host:
+                self.assertEqual(host.read(1, 2), b"more")
+        self.assertEqual([set(brute.open_all(self.root, person)) for person in range(3)], [{0, 1}, {1, 2}, {1, 2}])
+
+    def test_handed_key_damaged(self) -> None:
+        for layer in ("inner", "outer"):
+            file = self.root / "people" / "0" / layer
+            key = file.read_bytes()
+            for wrong in (b"", key[:-1], key + b"x"):
+                file.write_bytes(wrong)
+                with Host(self.root) as host:
+                    self.assertRaises(Damaged, host.read, 0, 0)
+            file.write_bytes(key)
+
+    def test_book_damaged(self) -> None:
+        file = self.root / "owner" / "book"
+        data = file.read_bytes()
+        for wrong in (b"", data[:-5], b"[]", b'{"book": "544B42", "pending": null}', data.replace(b"null", b'["join", 3, [[9, 0, 0]]]')):
+            file.write_bytes(wrong)
+            self.assertRaises(Damaged, Host, self.root)
+        file.write_bytes(data)
+        with Host(self.root) as host:
+            self.assertEqual(host.read(0, 0), TEXTS[0])
+
     def test_failing_disk(self) -> None:
         """A write that fails closes the host; the next one has the request whole, or not at all."""
         for place in ("before", "half", "written", "synced", "renamed", "kept"):
