@@ -17,7 +17,8 @@
  * the own outer vertex, and derives the rest. Proved: after any run of calls a user derives what opens a folder exactly if its list names that user.
  *
  * NUMBERS start at 0, in order of creation, each kind by itself: users, folders, inner vertices, inner tokens, outer vertices, outer tokens. A vertex
- * number says nothing of a user: the own vertices of user 3 may be inner 5 and outer 7.
+ * number says nothing of a user: the own vertices of user 3 may be inner 5 and outer 7. A user's own vertex is the one whose set is that user alone;
+ * each layer has exactly one for each user.
  *
  * THE BOOK is a head of seven numbers (enum fenstubble_head_place) and five tables of bytes. They are the caller's, who lends them to each call as the
  * last one left them. A table is at least as long as its limit asks (FENSTUBBLE_.._BYTES), however little of it is used; the head says how many rows
@@ -63,7 +64,8 @@
  *   - A join has two orders, 4 and 1. The keys that they make are the new user's own, to be handed to that user. No other request makes a user's own
  *     vertex, and nobody is handed the keys of the others.
  *
- * LENDING. A pointer is followed by its length: in bytes for a table, a set, a book or a buffer, in numbers (not in rows) for a head or a list.
+ * LENDING. A pointer is followed by its length: in bytes for a table, a set, a book or a buffer, in numbers (not in rows) for the
+ * rest: a head, orders, requests, answers, the list of an open.
  *   - Nothing that a call may write (what is not const) overlaps anything else that it is lent.
  *   - Pointers to uint16_t, uint64_t and size_t are aligned as their type asks; bytes need no alignment.
  *   - A pointer may be NULL only where its length is 0. A head, table or set of length 0 is too short (13); a list of length 0 has room for nothing

@@ -125,7 +125,7 @@ pub fn tell(h: Hint) {
         ),
         Hint::Returned => io::write_all(
             STDERR_FILENO,
-            b"fenstubble: the first line ends in a carriage return: save the requests with plain newlines, as by tr -d '\\r'\n",
+            b"fenstubble: the first line ends in a carriage return: save the requests with plain newlines (tr -d '\\r' < old > new)\n",
         ),
         Hint::Blank => io::write_all(
             STDERR_FILENO,
