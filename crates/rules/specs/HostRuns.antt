@@ -6,7 +6,7 @@ use mathlib.Core.Path.{refl}
 use mathlib.Core.Bool.{false}
 use mathlib.Core.List.{List, [], _∷_, _++_, map, flatMap}
 use Rattle.sets.specs.Sets.{sizeIn, size}
-use Rattle.rules.specs.Lists.{every, some, keep, first, pairwise, numbered, tabulateFrom, tabulate, upTo}
+use Rattle.rules.specs.Lists.{every, some, keep, first, numbered, tabulateFrom, tabulate, upTo}
 use Rattle.rules.specs.Layer.{setOf, ofSize, bySize, takes, cover, vertexFor, found, withVertex}
 use Rattle.rules.specs.Book.{Book, emptyLayer, emptyBook, resource, hasOuter, withInner, withOuter, withResources, withList, withLock}
 use Rattle.rules.specs.Holders.{into, sources, byToken, holders, holdersOf}
@@ -67,7 +67,7 @@ hosts =
 pub host-examples : Right hosts
 unfolding Right bit hosts hostRun deltaHost fullHost inNumbers spoils unobeyable obeyable deltaRun fullRun work flatMap
     hasKey addKey addToken putInner putOuter putKeys putLock spoil canObey made obeyed obey isJoin nothingMade emptyStore
-    sizeIn size every some keep first pairwise numbered tabulateFrom tabulate upTo
+    sizeIn size every some keep first numbered tabulateFrom tabulate upTo
     setOf ofSize bySize takes cover vertexFor found withVertex
     emptyLayer emptyBook resource hasOuter withInner withOuter withResources withList withLock
     into sources byToken holders holdersOf lockedFor

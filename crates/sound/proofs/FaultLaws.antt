@@ -25,7 +25,7 @@ use Rattle.layer.proofs.Steps.{some-found, none-found}
 use Rattle.sound.specs.Faults.{hasOwnIn, Owners, keeps, keepsBy, repeated}
 use Rattle.sound.specs.declared.layers.Rule.{Rule}
 use Rattle.sound.specs.declared.layers.Rule.the-variants.{S4}
-use Rattle.sound.proofs.Answers.{same}
+use Rattle.theorems.proofs.TestedLaws.{same}
 
 -- S2: the users who have one of the sets for themselves
 

@@ -11,7 +11,7 @@ use lib.ListN.{length, getD}
 use borrow.Author.Tests.{eqb-true, ltb-true, not-true, not-false}
 use Rattle.sets.specs.Words.{bytes}
 use Rattle.sets.proofs.Laws.{both, either}
-use Rattle.rules.specs.Lists.{first}
+use Rattle.rules.specs.Lists.{every}
 use Rattle.rules.specs.Book.{Resource, none, hasOuter}
 use Rattle.rules.specs.Open.{tokenAt}
 use Rattle.rules.specs.Layer.{token}
@@ -23,13 +23,12 @@ use Rattle.rules.specs.declared.Token.{Token}
 use Rattle.theorems.proofs.ListLaws.{every-mem, getD-mem}
 use Rattle.theorems.proofs.SoundLaws.{Counts, counts-are}
 use Rattle.theorems.proofs.ByteLaws.{Long, short-long, head-in}
-use Rattle.layer.specs.Laid.{Laid, innerShape, outerShape, layerOf, maxVertices, foundIn}
+use Rattle.layer.specs.Laid.{Laid, innerShape, outerShape, layerOf, maxVertices}
 use Rattle.layer.specs.declared.walk.Shape.{Shape}
-use Rattle.layer.proofs.Read.{length-tokens, length-resources}
-use Rattle.sound.specs.Check.{countsOf, nothing}
+use Rattle.layer.proofs.Read.{length-tokens}
+use Rattle.sound.specs.Check.{countsOf}
 use Rattle.sound.specs.Faults.{placedIn, placedAt, Ends, Inners, OuterIs, Outers}
-use Rattle.sound.proofs.Answers.{none-breaks, part}
-use Rattle.sound.proofs.RuleParts.{strangeTokens, counts-of, s1-parts}
+use Rattle.sound.proofs.RulePlaces.{counts-of, s1-counts, s1-inner, s1-outer, s1-resources}
 
 -- ---- the counts
 
@@ -41,12 +40,11 @@ pub record Within (h : Head) : Type 0 where
   pub innerTokens≤ : h .«inner_tokens» .0 ≤ maxTokens
   pub outerTokens≤ : h .«outer_tokens» .0 ≤ maxTokens
 
--- by the answer y of the check, which tests `!y`
-pub counts-within : (h : Head) {y : Bool} → y ≡ countsOf h → not y ≡ false → Within h
+pub counts-within : (h : Head) → countsOf h ≡ true → Within h
 unfolding headOf bookIn
-counts-within h {y} b q =
+counts-within h b =
     let t : Tables = tables [] [] [] [] [] in
-    let c : Counts (bookIn h t) = counts-are (bookIn h t) (counts-of h t ∙ sym b ∙ not-false y q) in
+    let c : Counts (bookIn h t) = counts-are (bookIn h t) (counts-of h t ∙ b) in
     let is = head-in h t in
     let rs : length (bookIn h t .resources) ≡ h .resources .0 = ap (λ h. h .resources .0) is in
     let iv : length (bookIn h t .inner .sets) ≡ h .«inner_vertices» .0 = ap (λ h. h .«inner_vertices» .0) is in
@@ -63,10 +61,10 @@ counts-within h {y} b q =
     }
 
 -- tables that are as long as their limits have room
-pub counts-room : (h : Head) (t : Tables) {x y : Bool} → x ≡ not (short t) → not x ≡ false → y ≡ countsOf h → not y ≡ false → Room h t
-counts-room h t {x} {y} a p b q =
+pub counts-room : (h : Head) (t : Tables) {x : Bool} → x ≡ not (short t) → not x ≡ false → countsOf h ≡ true → Room h t
+counts-room h t {x} a p b =
     let l : Long t = short-long t (not-true (short t) (sym a ∙ not-false x p)) in
-    let c : Within h = counts-within h b q in
+    let c : Within h = counts-within h b in
     record {
       innerVertices = omega arith;
       innerTokens = omega arith;
@@ -91,9 +89,9 @@ module _ (h : Head) (t : Tables) (r : Room h t) {l : Shape} where
   pub outer-held : l ≡ outerShape h → Held l (t .outerTokens) (t .outerVertices)
   outer-held e = rw e (record { low = lit≤ tt; high = lit≤ tt; rows = r .outerTokens; sets = r .outerVertices })
 
-token-ends : (w n m : ℕ) (ts : List ℕ) → nothing (strangeTokens w n m ts) ≡ true → Ends m (tokensIn w n ts)
+token-ends : (w n m : ℕ) (ts : List ℕ) → every (placedIn m) (tokensIn w n ts) ≡ true → Ends m (tokensIn w n ts)
 token-ends w n m ts e x i =
-    let row = every-mem (placedIn m) (tokensIn w n ts) (sym (none-breaks (placedIn m) (tokensIn w n ts) (length-tokens w n ts)) ∙ e) i in
+    let row = every-mem (placedIn m) (tokensIn w n ts) e i in
     let (front, to) = both (leb (x .kind) 1 && ltb (x .from) m) (ltb (x .to) m) row in
     (ltb-true (x .from) m (both (leb (x .kind) 1) (ltb (x .from) m) front .1), ltb-true (x .to) m to)
 
@@ -116,11 +114,11 @@ layer-laid l ts vs h few e =
     there : (k : ℕ) → k < l .tokens → List·Memᴰ (getD (tokensIn (l .width) (l .tokens) ts) k (token 0 0 0)) (tokensIn (l .width) (l .tokens) ts)
     there k lt = getD-mem (tokensIn (l .width) (l .tokens) ts) k (token 0 0 0) (rw length-tokens lt)
 
-resource-placed : (u n m k : ℕ) (rs : List ℕ) → nothing (foundIn k (first (λ x. not (placedAt u n m x)) (resourcesIn k rs))) ≡ true
+resource-placed : (u n m k : ℕ) (rs : List ℕ) → every (placedAt u n m) (resourcesIn k rs) ≡ true
     → (x : Resource) → List·Memᴰ x (resourcesIn k rs) → (x .inner < n) × OuterIs m x
 unfolding hasOuter
 resource-placed u n m k rs e x i =
-    let row = every-mem (placedAt u n m) (resourcesIn k rs) (sym (none-breaks (placedAt u n m) (resourcesIn k rs) (length-resources k rs)) ∙ e) i in
+    let row = every-mem (placedAt u n m) (resourcesIn k rs) e i in
     let (front, outer) = both (ltb (x .list) (2 ^ u) && ltb (x .inner) n) (not (hasOuter x) || ltb (x .outer) m) row in
     (ltb-true (x .inner) n (both (ltb (x .list) (2 ^ u)) (ltb (x .inner) n) front .1), go (either (not (hasOuter x)) (ltb (x .outer) m) outer))
   where
@@ -130,11 +128,11 @@ resource-placed u n m k rs e x i =
 
 module _ (h : Head) (t : Tables) (s1 : S1 (bookIn h t) ≡ true) where
   pub s1-within : Within h
-  s1-within = counts-within h refl (ap not (part (s1-parts h t refl refl) 0 s1))
+  s1-within = counts-within h (s1-counts h t s1)
 
   module _ {l : Shape} (e : l ≡ innerShape h) where
     pub inner-ends : Ends (l .vertices) (tokensIn (l .width) (l .tokens) (t .innerTokens))
-    inner-ends = token-ends (l .width) (l .tokens) (l .vertices) (t .innerTokens) (part (s1-parts h t e refl) 2 s1)
+    inner-ends = rw e (token-ends 5 (h .«inner_tokens» .0) (h .«inner_vertices» .0) (t .innerTokens) (s1-inner h t s1))
 
     pub inner-few : l .vertices ≤ maxVertices
     inner-few = let w = s1-within in rw e (omega arith)
@@ -143,11 +141,11 @@ module _ (h : Head) (t : Tables) (s1 : S1 (bookIn h t) ≡ true) where
     inner-laid r = let w = s1-within in layer-laid l (t .innerTokens) (t .innerVertices) (inner-held h t r e) (rw e (omega arith)) inner-ends
 
     pub inner-vertices : Inners (l .vertices) (resourcesIn (h .resources .0) (t .resources))
-    inner-vertices x m = resource-placed (h .users .0) (l .vertices) (h .«outer_vertices» .0) (h .resources .0) (t .resources) (part (s1-parts h t e refl) 5 s1) x m .0
+    inner-vertices = rw e (λ x m. resource-placed (h .users .0) (h .«inner_vertices» .0) (h .«outer_vertices» .0) (h .resources .0) (t .resources) (s1-resources h t s1) x m .0)
 
   module _ {l : Shape} (e : l ≡ outerShape h) where
     pub outer-ends : Ends (l .vertices) (tokensIn (l .width) (l .tokens) (t .outerTokens))
-    outer-ends = token-ends (l .width) (l .tokens) (l .vertices) (t .outerTokens) (part (s1-parts h t refl e) 4 s1)
+    outer-ends = rw e (token-ends 4 (h .«outer_tokens» .0) (h .«outer_vertices» .0) (t .outerTokens) (s1-outer h t s1))
 
     pub outer-few : l .vertices ≤ maxVertices
     outer-few = let w = s1-within in rw e (omega arith)
@@ -157,4 +155,4 @@ module _ (h : Head) (t : Tables) (s1 : S1 (bookIn h t) ≡ true) where
 
   pub outer-vertices : Outers (h .«outer_vertices» .0) (resourcesIn (h .resources .0) (t .resources))
   outer-vertices x m =
-      resource-placed (h .users .0) (h .«inner_vertices» .0) (h .«outer_vertices» .0) (h .resources .0) (t .resources) (part (s1-parts h t refl refl) 5 s1) x m .1
+      resource-placed (h .users .0) (h .«inner_vertices» .0) (h .«outer_vertices» .0) (h .resources .0) (t .resources) (s1-resources h t s1) x m .1

@@ -1,7 +1,7 @@
 -- S3 and S6, no two equal, as the code looks for them: a pass over the rows, with a mark for each row that was met.
 -- Assumes nothing.
 use Prim.Native.Nat.{ℕ, _+_, _*_, _/_, _%_, _<_}
-use mathlib.Core.Path.{_≡_, sym, ap, ap₂, _∙_}
+use mathlib.Core.Path.{_≡_, refl, sym, ap, ap₂, _∙_}
 use mathlib.Core.Bool.{Bool, true, false, _||_, or-false, true≢false}
 use mathlib.Core.List.{List, List·Memᴰ}
 use native.Mathlib.Nat.{div-add-mod'}
@@ -23,8 +23,13 @@ use Rattle.layer.specs.declared.table.Found.the-variants.{At}
 use Rattle.layer.proofs.Search.{Passed, number-here, number-on}
 use Rattle.sound.specs.Faults.{repeated, sameEnds, again, Ends}
 use Rattle.sound.specs.Marks.{marked, withMark, markOf}
-use Rattle.sound.proofs.Answers.{same, is-false}
+use Rattle.theorems.proofs.TestedLaws.{same}
 use Rattle.sound.proofs.Reading.{row-mem}
+
+-- a test that can't hold
+is-false : (b : Bool) → (b ≡ true → ⊥) → b ≡ false
+is-false true n = absurd (n refl)
+is-false false n = refl
 
 -- ---- a mark more
 

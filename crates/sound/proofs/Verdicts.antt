@@ -1,43 +1,31 @@
 -- The answer of the check: 13, then 12, then a sound book.
 -- Assumes nothing.
 use Prim.Native.Nat.{ℕ, _+_, _*_}
-use mathlib.Core.Path.{_≡_, refl, sym, _∙_}
-use mathlib.Core.Bool.{Bool, true, false, _||_, not, and-assoc, and-true}
+use mathlib.Core.Path.{_≡_, refl, sym, ap, _∙_}
+use mathlib.Core.Bool.{Bool, true, false, _&&_, _||_, not, and-true, true≢false, false≢true}
+use mathlib.Core.Option.{Option, some, none}
 use mathlib.Core.List.{[], _∷_}
 use lib.Dec.{ltb, leb}
 use lib.ListN.{length}
-use borrow.Author.Tests.{not-true, not-false, ltb-true, ltb-false, lt-leb, le-leb}
+use borrow.Author.Tests.{not-true, not-false}
 use Rattle.sets.specs.Words.{bytes}
 use Rattle.rules.specs.Bytes.{Tables, bookIn}
-use Rattle.rules.specs.Sound.{S1, sound, maxUsers, maxResources, maxTokens, maxGroups}
+use Rattle.rules.specs.Tests.{firstRule, isNone}
+use Rattle.rules.specs.Sound.{rules, sound, maxUsers, maxResources, maxTokens, maxGroups}
 use Rattle.rules.specs.Refusals.{short, common, verdict}
 use Rattle.rules.specs.declared.Head.{Head}
 use Rattle.rules.specs.declared.Refusal.the-variants.{ShortTable, Unsound}
-use Rattle.sound.specs.Check.{countsOf, checkedBy, checked}
+use Rattle.rules.specs.declared.Letter.{Letter}
+use Rattle.rules.specs.declared.Spot.{Spot}
+use Rattle.theorems.proofs.TestedLaws.{sound-nowhere}
+use Rattle.theorems.proofs.FaultLaws.{not-less}
+use Rattle.sound.specs.Check.{countsOf, judgedIs, checkedBy, checked}
+use Rattle.sound.specs.declared.every.Judged.{Judged}
+use Rattle.sound.specs.declared.every.Judged.the-variants as judged
+use Rattle.sound.specs.declared.every.Judged.the-variants.{Breaks}
 use Rattle.sound.specs.declared.Checked.the-variants.{Sound, No}
-use Rattle.sound.proofs.Answers.{all, Parts, stop}
-use Rattle.sound.proofs.RuleParts.{s1-parts, sound-parts}
-
--- S1's counts
-pub counts-parts : (h : Head)
-    → Parts (countsOf h)
-    (leb (h .mode .0) 1
-    ∷ leb (h .users .0) maxUsers
-    ∷ leb (h .resources .0) maxResources
-    ∷ leb (h .«inner_vertices» .0) (h .users .0 + h .resources .0)
-    ∷ leb (h .«outer_vertices» .0) (h .users .0 + maxGroups)
-    ∷ leb (h .«inner_tokens» .0) maxTokens
-    ∷ leb (h .«outer_tokens» .0) maxTokens
-    ∷ [])
-unfolding countsOf all
-counts-parts h = record { is = simp (and-assoc, and-true) }
-
-not-less : (l n : ℕ) → not (ltb l n) ≡ leb n l
-not-less l n = go (ltb l n) refl
-  where
-    go : (b : Bool) → ltb l n ≡ b → not b ≡ leb n l
-    go true e = sym (lt-leb n l (ltb-true l n e))
-    go false e = sym (le-leb n l (ltb-false l n e))
+use Rattle.sound.proofs.Answers.{all, Parts}
+use Rattle.sound.proofs.RulePlaces.{counts-of}
 
 none-of-five : (a b c d e : Bool) → Parts (not (a || b || c || d || e)) (not a ∷ not b ∷ not c ∷ not d ∷ not e ∷ [])
 unfolding all
@@ -65,6 +53,20 @@ long-parts t =
     let rs = ltb (length (t .resources)) (maxResources * (bytes + 4)) in
     simp not-less at (none-of-five iv it ov ot rs)
 
+is-breaks : Judged → Bool
+is-breaks judged.Sound = false
+is-breaks (Breaks l s) = true
+
+breaks-none : (o : Option (Letter × Spot)) {l : Letter} {s : Spot} → judgedIs o ≡ Breaks l s → isNone o ≡ false
+unfolding is-breaks isNone
+breaks-none none e = absurd (false≢true (ap is-breaks e))
+breaks-none (some r) e = refl
+
+pub sound-none : (o : Option (Letter × Spot)) → judgedIs o ≡ judged.Sound → isNone o ≡ true
+unfolding is-breaks isNone
+sound-none none e = refl
+sound-none (some r) e = absurd (true≢false (ap is-breaks e))
+
 -- the answers x on the tables' lengths and y on the book; the check tests `!x` and `!y`
 module _ (h : Head) (t : Tables) {x : Bool} (a : x ≡ not (short t)) where
   pub tables-short : not x ≡ true → No ShortTable ≡ checked h t
@@ -79,15 +81,20 @@ module _ (h : Head) (t : Tables) {x : Bool} (a : x ≡ not (short t)) where
     unfolding checked checkedBy verdict common
     unsound s = rw (long, s)
 
-    pub not-sound : {y : Bool} → y ≡ sound (bookIn h t) → not y ≡ true → No Unsound ≡ checked h t
-    not-sound {y} b f = unsound (sym b ∙ not-true y f)
-
     -- S1 fails
     pub counts-wrong : {y : Bool} → y ≡ countsOf h → not y ≡ true → No Unsound ≡ checked h t
-    counts-wrong b f =
-        let s1 : false ≡ S1 (bookIn h t) = stop (s1-parts h t refl refl) 0 b f in
-        unsound (sym (stop (sound-parts (bookIn h t)) 0 s1 refl))
+    counts-wrong {y} b f = unsound (sound-nowhere (bookIn h t) ∙ ap (λ z. z && isNone (firstRule (rules (bookIn h t)))) (counts-of h t ∙ sym b ∙ not-true y f))
 
-    pub is-sound : {y : Bool} → y ≡ sound (bookIn h t) → not y ≡ false → Sound ≡ checked h t
-    unfolding checked checkedBy verdict common
-    is-sound {y} b f = let s : sound (bookIn h t) ≡ true = sym b ∙ not-false y f in rw (long, s)
+    -- by the answer k on the rules
+    module _ {k : Judged} (c : countsOf h ≡ true) (b : k ≡ judgedIs (firstRule (rules (bookIn h t)))) where
+      by-rules : sound (bookIn h t) ≡ isNone (firstRule (rules (bookIn h t)))
+      by-rules = sound-nowhere (bookIn h t) ∙ ap (λ z. z && isNone (firstRule (rules (bookIn h t)))) (counts-of h t ∙ c)
+
+      pub not-sound : {l : Letter} {s : Spot} → k ≡ Breaks l s → No Unsound ≡ checked h t
+      not-sound e = unsound (by-rules ∙ breaks-none (firstRule (rules (bookIn h t))) (sym b ∙ e))
+
+      pub is-sound : k ≡ judged.Sound → Sound ≡ checked h t
+      unfolding checked checkedBy verdict common
+      is-sound e =
+          let s : sound (bookIn h t) ≡ true = by-rules ∙ sound-none (firstRule (rules (bookIn h t))) (sym b ∙ e) in
+          rw (long, s)

@@ -1,31 +1,63 @@
 -- The check of tables: their room, the counts, and the answer. RULES 8.7.
 -- Assumes nothing.
-use Prim.Native.Nat.{_+_}
-use mathlib.Core.Bool.{Bool, true, false, _&&_}
+use Prim.Native.Nat.{ℕ}
+use mathlib.Core.Bool.{Bool, true, false, _&&_, cond}
 use mathlib.Core.Option.{Option, some, none}
-use lib.Dec.{leb}
-use Rattle.rules.specs.Bytes.{Tables, bookIn}
-use Rattle.rules.specs.Sound.{maxUsers, maxResources, maxTokens, maxGroups}
+use lib.Dec.{ltb, leb}
+use Rattle.rules.specs.Lists.{every}
+use Rattle.rules.specs.Bytes.{Tables, bookIn, limitsOf}
+use Rattle.rules.specs.Sound.{inLimit}
 use Rattle.rules.specs.Refusals.{common, verdict}
 use Rattle.rules.specs.declared.Head.{Head}
 use Rattle.rules.specs.declared.Refusal.{Refusal}
+use Rattle.rules.specs.declared.Letter.{Letter}
+use Rattle.rules.specs.declared.Spot.{Spot}
+use Rattle.rules.specs.declared.Spot.the-variants.{Row, Missing}
 use Rattle.layer.specs.declared.table.Found.{Found}
 use Rattle.layer.specs.declared.table.Found.the-variants.{At, Nothing}
+use Rattle.sound.specs.declared.every.Broken.{Broken}
+use Rattle.sound.specs.declared.every.Broken.the-variants.{Nowhere, By}
+use Rattle.sound.specs.declared.every.Judged.{Judged}
+use Rattle.sound.specs.declared.every.Judged.the-variants as judged
 use Rattle.sound.specs.declared.Checked.{Checked}
 use Rattle.sound.specs.declared.Checked.the-variants.{Sound, No}
 
 -- S1's counts (`counts`), by the head
 unfoldable pub countsOf : Head → Bool
-countsOf h =
-    leb (h .mode .0) 1 && leb (h .users .0) maxUsers && leb (h .resources .0) maxResources
-    && leb (h .«inner_vertices» .0) (h .users .0 + h .resources .0)
-    && leb (h .«outer_vertices» .0) (h .users .0 + maxGroups)
-    && leb (h .«inner_tokens» .0) maxTokens
-    && leb (h .«outer_tokens» .0) maxTokens
+countsOf h = leb (h .mode .0) 1 && every inLimit (limitsOf h)
 
 abbrev pub nothing : Found → Bool
 nothing (At i) = false
 nothing Nothing = true
+
+-- what a search among the rows of section k says of a rule, and a search for someone without a vertex
+abbrev pub rowOf : ℕ → Found → Broken
+rowOf k (At i) = By (Row k i)
+rowOf k Nothing = Nowhere
+
+abbrev pub missingOf : Found → Broken
+missingOf (At i) = By Missing
+missingOf Nothing = Nowhere
+
+-- the first of two places
+abbrev pub orElse : Broken → Broken → Broken
+orElse (By s) b = By s
+orElse Nowhere b = b
+
+-- the lower of two rows
+abbrev pub lower : Found → Found → Found
+lower Nothing g = g
+lower (At i) Nothing = At i
+lower (At i) (At j) = cond (ltb j i) (At j) (At i)
+
+-- where a rule is broken first, and which rule is
+abbrev pub brokenIs : Option Spot → Broken
+brokenIs none = Nowhere
+brokenIs (some s) = By s
+
+abbrev pub judgedIs : Option (Letter × Spot) → Judged
+judgedIs none = judged.Sound
+judgedIs (some r) = judged.Breaks (r .0) (r .1)
 
 -- 13, 12, or a sound book
 unfoldable pub checkedBy : Option Refusal → Checked

@@ -1,4 +1,4 @@
-// S1 to S8 of a book, each a function of its own.
+// S1 to S8 of a book, each a function of its own that answers where its rule is broken first, by position in the book's bytes.
 use crate::layers::Rule;
 use crate::layers::equal_set;
 use crate::layers::equal_token;
@@ -17,15 +17,32 @@ use layer::walk::outer_shape;
 use rules::Head;
 use rules::InnerTokens;
 use rules::Joined;
+use rules::Letter;
 use rules::OuterTokens;
 use rules::OuterVertices;
 use rules::Resources;
+use rules::Spot;
 use sets::Users;
 ghost use mathlib.Core.Path.{_≡_};
-ghost use mathlib.Core.Bool.{true};
-ghost use Rattle.rules.specs.Bytes.{tables, bookIn, Room};
-ghost use Rattle.rules.specs.Sound.{S1, S2, S3, S4, S5, S6, S7, S8, sound};
-ghost use Rattle.sound.specs.Check.{countsOf, nothing};
+ghost use mathlib.Core.Bool.{true, not};
+ghost use Rattle.rules.specs.Lists.{first};
+ghost use Rattle.rules.specs.Tests.{broken, firstRule};
+ghost use Rattle.rules.specs.Bytes.{tables, bookIn, Room, limitsOf};
+ghost use Rattle.rules.specs.Sound.{inLimit, rules, rows1, rows2, rows3, rows4, rows5, rows6, rows7, rows8, S1, S4};
+ghost use Rattle.layer.specs.Laid.{foundIn};
+ghost use Rattle.sound.specs.Check.{countsOf, nothing, rowOf, missingOf, orElse, lower, brokenIs, judgedIs};
+
+// Where a rule is broken first.
+pub enum Broken {
+    Nowhere,
+    By(Spot),
+}
+
+// Which rule is broken first, and where.
+pub enum Judged {
+    Sound,
+    Breaks(Letter, Spot),
+}
 
 // Whether a search found nothing.
 fn nothing(f: Found) -> bool
@@ -37,184 +54,233 @@ fn nothing(f: Found) -> bool
     }
 }
 
+// What a search among the rows of section k says of a rule.
+fn row(k: usize, f: Found) -> Broken
+    ensures { λ r. ⌜ r ≡ rowOf k f ⌝ }
+{
+    match f {
+        Found::At(i) => Broken::By(Spot::Row(k, i)),
+        Found::Nothing => Broken::Nowhere,
+    }
+}
+
+// What a search for someone without a vertex says.
+fn missing(f: Found) -> Broken
+    ensures { λ r. ⌜ r ≡ missingOf f ⌝ }
+{
+    match f {
+        Found::At(_) => Broken::By(Spot::Missing),
+        Found::Nothing => Broken::Nowhere,
+    }
+}
+
+// The first of two places, where the earlier rows were looked at first.
+fn or(a: Broken, b: Broken) -> Broken
+    ensures { λ r. ⌜ r ≡ orElse a b ⌝ }
+{
+    match a {
+        Broken::By(s) => Broken::By(s),
+        Broken::Nowhere => b,
+    }
+}
+
+// The lower of the rows that two searches found.
+fn lower(f: Found, g: Found) -> Found
+    ensures { λ r. ⌜ r ≡ lower f g ⌝ }
+{
+    match f {
+        Found::Nothing => g,
+        Found::At(i) => match g {
+            Found::Nothing => f,
+            Found::At(j) => {
+                if j < i {
+                    return g;
+                }
+                f
+            }
+        },
+    }
+}
+
+// S1: the first count past its limit, of the six in the order of a book's header.
+pub fn bad_count(h: Head) -> Found
+    ensures { λ r. ⌜ r ≡ foundIn 6 (first (λ c. not (inLimit c)) (limitsOf h)) ⌝ }
+{
+    if h.users.0 > Joined::LIMIT {
+        return Found::At(0);
+    }
+    if h.resources.0 > Resources::LIMIT {
+        return Found::At(1);
+    }
+    if h.inner_vertices.0 > h.users.0 + h.resources.0 {
+        return Found::At(2);
+    }
+    if h.inner_tokens.0 > InnerTokens::LIMIT {
+        return Found::At(3);
+    }
+    if h.outer_vertices.0 > h.users.0 + OuterVertices::GROUPS {
+        return Found::At(4);
+    }
+    if h.outer_tokens.0 > OuterTokens::LIMIT {
+        return Found::At(5);
+    }
+    Found::Nothing
+}
+
 // S1: the mode and the counts.
 pub fn counts_hold(h: Head) -> bool
     ensures { λ r. ⌜ r ≡ countsOf h ⌝ }
 {
-    if h.mode.0 > 1 || h.users.0 > Joined::LIMIT || h.resources.0 > Resources::LIMIT {
-        return false;
-    }
-    if h.inner_vertices.0 > h.users.0 + h.resources.0
-        || h.outer_vertices.0 > h.users.0 + OuterVertices::GROUPS
-    {
-        return false;
-    }
-    h.inner_tokens.0 <= InnerTokens::LIMIT && h.outer_tokens.0 <= OuterTokens::LIMIT
+    h.mode.0 <= 1 && nothing(bad_count(h))
 }
 
-// S1: counts, kinds, numbers and sets.
-fn s1(h: Head, iv: &[u8], it: &[u8], ov: &[u8], ot: &[u8], rs: &[u8]) -> bool
+// S1: sets, kinds and numbers, where the counts hold.
+fn s1(h: Head, iv: &[u8], it: &[u8], ov: &[u8], ot: &[u8], rs: &[u8]) -> Broken
     requires { ⌜ Room h (tables (now iv) (now it) (now ov) (now ot) (now rs)) ⌝ }
-    ensures { λ r. ⌜ r ≡ S1 (bookIn h (tables (now (iv .entry)) (now (it .entry)) (now (ov .entry)) (now (ot .entry)) (now (rs .entry)))) ⌝ }
+    requires { ⌜ countsOf h ≡ true ⌝ }
+    ensures { λ r. ⌜ r ≡ brokenIs (broken (rows1 (bookIn h (tables (now (iv .entry)) (now (it .entry)) (now (ov .entry)) (now (ot .entry)) (now (rs .entry)))))) ⌝ }
 {
-    if !counts_hold(h) {
-        return false;
-    }
     let i = inner_shape(h);
     let o = outer_shape(h);
-    if !nothing(strange_set(iv, i.vertices, h.users.0)) {
-        return false;
-    }
-    if !nothing(strange_token(it, i.width, i.tokens, i.vertices)) {
-        return false;
-    }
-    if !nothing(strange_set(ov, o.vertices, h.users.0)) {
-        return false;
-    }
-    if !nothing(strange_token(ot, o.width, o.tokens, o.vertices)) {
-        return false;
-    }
-    nothing(misplaced(
-        rs,
-        h.resources.0 as usize,
-        h.users.0,
-        i.vertices,
-        o.vertices,
-    ))
+    let a = row(0, strange_set(iv, i.vertices, h.users.0));
+    let b = row(1, strange_token(it, i.width, i.tokens, i.vertices));
+    let c = row(2, strange_set(ov, o.vertices, h.users.0));
+    let d = row(3, strange_token(ot, o.width, o.tokens, o.vertices));
+    let n = h.resources.0 as usize;
+    let e = row(4, misplaced(rs, n, h.users.0, i.vertices, o.vertices));
+    or(a, or(b, or(c, or(d, e))))
 }
 
 // S2: own vertices, which no kind 0 token enters; no empty inner set.
-fn s2(h: Head, iv: &[u8], it: &[u8], ov: &[u8], ot: &[u8], rs: &[u8]) -> bool
+fn s2(h: Head, iv: &[u8], it: &[u8], ov: &[u8], ot: &[u8], rs: &[u8]) -> Broken
     requires { ⌜ Room h (tables (now iv) (now it) (now ov) (now ot) (now rs)) ⌝ }
     requires { ⌜ S1 (bookIn h (tables (now iv) (now it) (now ov) (now ot) (now rs))) ≡ true ⌝ }
-    ensures { λ r. ⌜ r ≡ S2 (bookIn h (tables (now (iv .entry)) (now (it .entry)) (now (ov .entry)) (now (ot .entry)) (now (rs .entry)))) ⌝ }
+    ensures { λ r. ⌜ r ≡ brokenIs (broken (rows2 (bookIn h (tables (now (iv .entry)) (now (it .entry)) (now (ov .entry)) (now (ot .entry)) (now (rs .entry)))))) ⌝ }
 {
     let i = inner_shape(h);
     let o = outer_shape(h);
-    if !nothing(ownless(iv, i.vertices, h.users.0)) {
-        return false;
-    }
-    if !nothing(ownless(ov, o.vertices, h.users.0)) {
-        return false;
-    }
-    if !nothing(find_set(iv, i.vertices, Users::empty())) {
-        return false;
-    }
-    if !nothing(token_fault(it, iv, i, Rule::S2)) {
-        return false;
-    }
-    nothing(token_fault(ot, ov, o, Rule::S2))
+    let a = missing(ownless(iv, i.vertices, h.users.0));
+    let b = missing(ownless(ov, o.vertices, h.users.0));
+    let c = row(0, find_set(iv, i.vertices, Users::empty()));
+    let d = row(1, token_fault(it, iv, i, Rule::S2));
+    let e = row(3, token_fault(ot, ov, o, Rule::S2));
+    or(a, or(b, or(c, or(d, e))))
 }
 
 // S3: no two equal sets.
-fn s3(h: Head, iv: &[u8], it: &[u8], ov: &[u8], ot: &[u8], rs: &[u8]) -> bool
+fn s3(h: Head, iv: &[u8], it: &[u8], ov: &[u8], ot: &[u8], rs: &[u8]) -> Broken
     requires { ⌜ Room h (tables (now iv) (now it) (now ov) (now ot) (now rs)) ⌝ }
-    ensures { λ r. ⌜ r ≡ S3 (bookIn h (tables (now (iv .entry)) (now (it .entry)) (now (ov .entry)) (now (ot .entry)) (now (rs .entry)))) ⌝ }
+    ensures { λ r. ⌜ r ≡ brokenIs (broken (rows3 (bookIn h (tables (now (iv .entry)) (now (it .entry)) (now (ov .entry)) (now (ot .entry)) (now (rs .entry)))))) ⌝ }
 {
-    if !nothing(equal_set(iv, h.inner_vertices.0 as usize)) {
-        return false;
-    }
-    nothing(equal_set(ov, h.outer_vertices.0 as usize))
+    let a = row(0, equal_set(iv, h.inner_vertices.0 as usize));
+    let b = row(2, equal_set(ov, h.outer_vertices.0 as usize));
+    or(a, b)
 }
 
 // S4: tokens lead to larger sets.
-fn s4(h: Head, iv: &[u8], it: &[u8], ov: &[u8], ot: &[u8], rs: &[u8]) -> bool
+fn s4(h: Head, iv: &[u8], it: &[u8], ov: &[u8], ot: &[u8], rs: &[u8]) -> Broken
     requires { ⌜ Room h (tables (now iv) (now it) (now ov) (now ot) (now rs)) ⌝ }
     requires { ⌜ S1 (bookIn h (tables (now iv) (now it) (now ov) (now ot) (now rs))) ≡ true ⌝ }
-    ensures { λ r. ⌜ r ≡ S4 (bookIn h (tables (now (iv .entry)) (now (it .entry)) (now (ov .entry)) (now (ot .entry)) (now (rs .entry)))) ⌝ }
+    ensures { λ r. ⌜ r ≡ brokenIs (broken (rows4 (bookIn h (tables (now (iv .entry)) (now (it .entry)) (now (ov .entry)) (now (ot .entry)) (now (rs .entry)))))) ⌝ }
 {
-    if !nothing(token_fault(it, iv, inner_shape(h), Rule::S4)) {
-        return false;
-    }
-    nothing(token_fault(ot, ov, outer_shape(h), Rule::S4))
+    let a = row(1, token_fault(it, iv, inner_shape(h), Rule::S4));
+    let b = row(3, token_fault(ot, ov, outer_shape(h), Rule::S4));
+    or(a, b)
 }
 
 // S5: group vertices are the unions of their sources.
-fn s5(h: Head, iv: &[u8], it: &[u8], ov: &[u8], ot: &[u8], rs: &[u8]) -> bool
+fn s5(h: Head, iv: &[u8], it: &[u8], ov: &[u8], ot: &[u8], rs: &[u8]) -> Broken
     requires { ⌜ Room h (tables (now iv) (now it) (now ov) (now ot) (now rs)) ⌝ }
     requires { ⌜ S1 (bookIn h (tables (now iv) (now it) (now ov) (now ot) (now rs))) ≡ true ⌝ }
-    ensures { λ r. ⌜ r ≡ S5 (bookIn h (tables (now (iv .entry)) (now (it .entry)) (now (ov .entry)) (now (ot .entry)) (now (rs .entry)))) ⌝ }
+    ensures { λ r. ⌜ r ≡ brokenIs (broken (rows5 (bookIn h (tables (now (iv .entry)) (now (it .entry)) (now (ov .entry)) (now (ot .entry)) (now (rs .entry)))))) ⌝ }
 {
-    if !nothing(ununited(it, iv, inner_shape(h))) {
-        return false;
-    }
-    nothing(ununited(ot, ov, outer_shape(h)))
+    let a = row(0, ununited(it, iv, inner_shape(h)));
+    let b = row(2, ununited(ot, ov, outer_shape(h)));
+    or(a, b)
 }
 
-// S6: kind 1 tokens let in someone new; no row twice.
-fn s6(h: Head, iv: &[u8], it: &[u8], ov: &[u8], ot: &[u8], rs: &[u8]) -> bool
+// S6: kind 1 tokens let in someone new; no row twice. (Up to the first kind 1 token that lets in nobody new, tokens with the same ends are equal.)
+fn s6(h: Head, iv: &[u8], it: &[u8], ov: &[u8], ot: &[u8], rs: &[u8]) -> Broken
     requires { ⌜ Room h (tables (now iv) (now it) (now ov) (now ot) (now rs)) ⌝ }
     requires { ⌜ S1 (bookIn h (tables (now iv) (now it) (now ov) (now ot) (now rs))) ≡ true ⌝ }
     requires { ⌜ S4 (bookIn h (tables (now iv) (now it) (now ov) (now ot) (now rs))) ≡ true ⌝ }
-    ensures { λ r. ⌜ r ≡ S6 (bookIn h (tables (now (iv .entry)) (now (it .entry)) (now (ov .entry)) (now (ot .entry)) (now (rs .entry)))) ⌝ }
+    ensures { λ r. ⌜ r ≡ brokenIs (broken (rows6 (bookIn h (tables (now (iv .entry)) (now (it .entry)) (now (ov .entry)) (now (ot .entry)) (now (rs .entry)))))) ⌝ }
 {
     let i = inner_shape(h);
     let o = outer_shape(h);
-    if !nothing(token_fault(it, iv, i, Rule::S6)) {
-        return false;
-    }
-    if !nothing(token_fault(ot, ov, o, Rule::S6)) {
-        return false;
-    }
-    if !nothing(equal_token(it, i.width, i.tokens)) {
-        return false;
-    }
-    nothing(equal_token(ot, o.width, o.tokens))
+    let a = token_fault(it, iv, i, Rule::S6);
+    let b = equal_token(it, i.width, i.tokens);
+    let c = token_fault(ot, ov, o, Rule::S6);
+    let d = equal_token(ot, o.width, o.tokens);
+    or(row(1, lower(a, b)), row(3, lower(c, d)))
 }
 
 // S7: lists lie within the holders.
-fn s7(h: Head, iv: &[u8], it: &[u8], ov: &[u8], ot: &[u8], rs: &[u8]) -> bool
+fn s7(h: Head, iv: &[u8], it: &[u8], ov: &[u8], ot: &[u8], rs: &[u8]) -> Broken
     requires { ⌜ Room h (tables (now iv) (now it) (now ov) (now ot) (now rs)) ⌝ }
     requires { ⌜ S1 (bookIn h (tables (now iv) (now it) (now ov) (now ot) (now rs))) ≡ true ⌝ }
-    ensures { λ r. ⌜ r ≡ S7 (bookIn h (tables (now (iv .entry)) (now (it .entry)) (now (ov .entry)) (now (ot .entry)) (now (rs .entry)))) ⌝ }
+    ensures { λ r. ⌜ r ≡ brokenIs (broken (rows7 (bookIn h (tables (now (iv .entry)) (now (it .entry)) (now (ov .entry)) (now (ot .entry)) (now (rs .entry)))))) ⌝ }
 {
-    nothing(unheld(rs, h.resources.0 as usize, it, iv, inner_shape(h)))
+    let n = h.resources.0 as usize;
+    row(4, unheld(rs, n, it, iv, inner_shape(h)))
 }
 
 // S8: resources are locked as their mode asks.
-fn s8(h: Head, iv: &[u8], it: &[u8], ov: &[u8], ot: &[u8], rs: &[u8]) -> bool
+fn s8(h: Head, iv: &[u8], it: &[u8], ov: &[u8], ot: &[u8], rs: &[u8]) -> Broken
     requires { ⌜ Room h (tables (now iv) (now it) (now ov) (now ot) (now rs)) ⌝ }
     requires { ⌜ S1 (bookIn h (tables (now iv) (now it) (now ov) (now ot) (now rs))) ≡ true ⌝ }
-    ensures { λ r. ⌜ r ≡ S8 (bookIn h (tables (now (iv .entry)) (now (it .entry)) (now (ov .entry)) (now (ot .entry)) (now (rs .entry)))) ⌝ }
+    ensures { λ r. ⌜ r ≡ brokenIs (broken (rows8 (bookIn h (tables (now (iv .entry)) (now (it .entry)) (now (ov .entry)) (now (ot .entry)) (now (rs .entry)))))) ⌝ }
 {
     let m = h.outer_vertices.0 as usize;
-    nothing(unlocked(
-        h.mode.0,
-        rs,
-        h.resources.0 as usize,
-        it,
-        iv,
-        inner_shape(h),
-        ov,
-        m,
-    ))
+    let n = h.resources.0 as usize;
+    row(4, unlocked(h.mode.0, rs, n, it, iv, inner_shape(h), ov, m))
 }
 
-// S1 to S8.
-pub fn all_rules(h: Head, iv: &[u8], it: &[u8], ov: &[u8], ot: &[u8], rs: &[u8]) -> bool
+// S1 to S8, where the counts hold: the first rule that is broken, and where.
+pub fn first_rule(h: Head, iv: &[u8], it: &[u8], ov: &[u8], ot: &[u8], rs: &[u8]) -> Judged
     requires { ⌜ Room h (tables (now iv) (now it) (now ov) (now ot) (now rs)) ⌝ }
-    ensures { λ r. ⌜ r ≡ sound (bookIn h (tables (now (iv .entry)) (now (it .entry)) (now (ov .entry)) (now (ot .entry)) (now (rs .entry)))) ⌝ }
+    requires { ⌜ countsOf h ≡ true ⌝ }
+    ensures { λ r. ⌜ r ≡ judgedIs (firstRule (rules (bookIn h (tables (now (iv .entry)) (now (it .entry)) (now (ov .entry)) (now (ot .entry)) (now (rs .entry)))))) ⌝ }
 {
-    if !s1(h, iv, it, ov, ot, rs) {
-        return false;
+    let b1 = s1(h, iv, it, ov, ot, rs);
+    match b1 {
+        Broken::By(s) => return Judged::Breaks(Letter::S1, s),
+        Broken::Nowhere => {}
     }
-    if !s2(h, iv, it, ov, ot, rs) {
-        return false;
+    let b2 = s2(h, iv, it, ov, ot, rs);
+    match b2 {
+        Broken::By(s) => return Judged::Breaks(Letter::S2, s),
+        Broken::Nowhere => {}
     }
-    if !s3(h, iv, it, ov, ot, rs) {
-        return false;
+    let b3 = s3(h, iv, it, ov, ot, rs);
+    match b3 {
+        Broken::By(s) => return Judged::Breaks(Letter::S3, s),
+        Broken::Nowhere => {}
     }
-    if !s4(h, iv, it, ov, ot, rs) {
-        return false;
+    let b4 = s4(h, iv, it, ov, ot, rs);
+    match b4 {
+        Broken::By(s) => return Judged::Breaks(Letter::S4, s),
+        Broken::Nowhere => {}
     }
-    if !s5(h, iv, it, ov, ot, rs) {
-        return false;
+    let b5 = s5(h, iv, it, ov, ot, rs);
+    match b5 {
+        Broken::By(s) => return Judged::Breaks(Letter::S5, s),
+        Broken::Nowhere => {}
     }
-    if !s6(h, iv, it, ov, ot, rs) {
-        return false;
+    let b6 = s6(h, iv, it, ov, ot, rs);
+    match b6 {
+        Broken::By(s) => return Judged::Breaks(Letter::S6, s),
+        Broken::Nowhere => {}
     }
-    if !s7(h, iv, it, ov, ot, rs) {
-        return false;
+    let b7 = s7(h, iv, it, ov, ot, rs);
+    match b7 {
+        Broken::By(s) => return Judged::Breaks(Letter::S7, s),
+        Broken::Nowhere => {}
     }
-    s8(h, iv, it, ov, ot, rs)
+    let b8 = s8(h, iv, it, ov, ot, rs);
+    match b8 {
+        Broken::By(s) => return Judged::Breaks(Letter::S8, s),
+        Broken::Nowhere => {}
+    }
+    Judged::Sound
 }

@@ -41,11 +41,11 @@ pub open-determined : (u r : ℕ) (h : Head) (t : Tables) (list : List ℕ) {a a
     → (a ≡ a′) × (l ≡ l′)
 open-determined u r h t list e f = (determined (λ (c : Shown). c .answer) e f, determined (λ (c : Shown). c .list) e f)
 
--- section: the stretch's bytes, cell
-pub section-determined : (bs : List ℕ) (k : ℕ) {s s′ : List ℕ} {n n′ : ℕ}
-    → part s n ≡ sectionCall bs k → part s′ n′ ≡ sectionCall bs k
-    → (s ≡ s′) × (n ≡ n′)
-section-determined bs k e f = (determined (λ (c : Part). c .stretch) e f, determined (λ (c : Part). c .cell) e f)
+-- section: the stretch's bytes, both cells
+pub section-determined : (bs : List ℕ) (k : ℕ) {s s′ : List ℕ} {n n′ at at′ : ℕ}
+    → part s n at ≡ sectionCall bs k → part s′ n′ at′ ≡ sectionCall bs k
+    → (s ≡ s′) × (n ≡ n′) × (at ≡ at′)
+section-determined bs k e f = (determined (λ (c : Part). c .stretch) e f, determined (λ (c : Part). c .cell) e f, determined (λ (c : Part). c .place) e f)
 
 -- read: answer, tables
 pub read-determined : (bs : List ℕ) (t : Tables) {a a′ : Loaded} {s s′ : Tables}
