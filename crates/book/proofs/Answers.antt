@@ -18,7 +18,7 @@ use Rattle.rules.specs.Tests.{firstRule, when, firstSome}
 use Rattle.rules.specs.Book.{Book}
 use Rattle.rules.specs.Sound.{inLimit, rules, sound}
 use Rattle.rules.specs.Bytes.{widths, Tables, headOf, headIn, counts, start, sections, read, limitsOf, countPlaces, badCount, placeOf, ruleFault, fault, faultNumber, faultPlace, isBook, bookIn, laid, write, Room, Bytes}
-use Rattle.rules.specs.Refusals.{short, common, verdict, brokenBy, refusalRead, refusalSection, refusalWrite}
+use Rattle.rules.specs.Refusals.{short, common, verdict, faultyBy, refusalRead, refusalSection, refusalWrite}
 use Rattle.rules.specs.Calls.{part, partBy, sectionCall, loading, loadBy, readCall, writing, writeBy, writeCall}
 use Rattle.rules.specs.declared.Head.{Head}
 use Rattle.rules.specs.declared.Letter.{Letter}
@@ -27,7 +27,8 @@ use Rattle.rules.specs.declared.Spot.the-variants.{Row, Missing}
 use Rattle.rules.specs.declared.Fault.{Fault}
 use Rattle.rules.specs.declared.Fault.the-variants.{Count, Rule}
 use Rattle.rules.specs.declared.Refusal.{Refusal}
-use Rattle.rules.specs.declared.Refusal.the-variants.{ShortTable, Broken, ShortList}
+use Rattle.rules.specs.declared.Refusal.the-variants.{ShortTable, ShortList}
+use Rattle.rules.specs.declared.Denial.the-variants.{Refused, Faulty}
 use Rattle.rules.specs.declared.Loaded.the-variants as load
 use Rattle.rules.specs.declared.Stored.the-variants as store
 use Rattle.layer.specs.declared.table.Found.{Found}
@@ -221,16 +222,16 @@ fault-first bs {f = f} e a = go (fault bs) (sym a ∙ e)
 -- what is wrong first, in the cells
 pub section-broken : (bs : List ℕ) (k : ℕ) {w : Wrong} {f : Fault} {n at : ℕ} → w ≡ wrongIs (fault bs) → w ≡ First f → n ≡ faultNumber f → at ≡ faultPlace f
     → part [] n at ≡ sectionCall bs k
-unfolding sectionCall partBy refusalSection firstSome brokenBy
+unfolding sectionCall partBy refusalSection firstSome faultyBy
 section-broken bs k e a en ep = rw (fault-first bs e a) (ap₂ (part []) en ep)
 
 pub section-none : (bs : List ℕ) (k : ℕ) → isBook bs ≡ true → 5 ≤ k → part [] 1 0 ≡ sectionCall bs k
-unfolding sectionCall partBy refusalSection firstSome brokenBy when
+unfolding sectionCall partBy refusalSection firstSome faultyBy when
 section-none bs k e l = rw (fault-none bs .1 e, le-ltb k 5 l)
 
 pub section-given : (bs : List ℕ) (k a b : ℕ) → isBook bs ≡ true → k < 5 → a ≡ start (headIn bs) k → b ≡ start (headIn bs) (k + 1)
     → part (take (b - a) (drop a bs)) 0 0 ≡ sectionCall bs k
-unfolding sectionCall partBy refusalSection firstSome brokenBy when
+unfolding sectionCall partBy refusalSection firstSome faultyBy when
 section-given bs k a b e l ea eb =
     rw (fault-none bs .1 e, lt-ltb k 5 l) (ap (λ (s : List ℕ). part s 0 0) (section-cut bs k a b ea (eb ∙ ap (start (headIn bs)) (add-one k))))
 
@@ -245,16 +246,16 @@ loadable bs h t e s k =
       room = subst (λ (x : Head). Room x t) (head-read bs ∙ sym e) (sound-room (read bs) t (b .sound′) s);
     }
 
-pub read-short : (bs : List ℕ) (t : Tables) → short t ≡ true → loading (load.No ShortTable) t ≡ readCall bs t
+pub read-short : (bs : List ℕ) (t : Tables) → short t ≡ true → loading (load.No (Refused ShortTable)) t ≡ readCall bs t
 unfolding readCall loadBy refusalRead firstSome when
 read-short bs t s = rw s
 
-pub read-broken : (bs : List ℕ) (t : Tables) {w : Wrong} {f : Fault} → short t ≡ false → w ≡ wrongIs (fault bs) → w ≡ First f → loading (load.No (Broken f)) t ≡ readCall bs t
-unfolding readCall loadBy refusalRead firstSome when brokenBy
+pub read-broken : (bs : List ℕ) (t : Tables) {w : Wrong} {f : Fault} → short t ≡ false → w ≡ wrongIs (fault bs) → w ≡ First f → loading (load.No (Faulty f)) t ≡ readCall bs t
+unfolding readCall loadBy refusalRead firstSome when faultyBy
 read-broken bs t s e a = rw (s, fault-first bs e a)
 
 pub read-given : (bs : List ℕ) (h : Head) (t u : Tables) → short t ≡ false → isBook bs ≡ true → h ≡ headIn bs → u ≡ laid (read bs) t → loading (load.Is h) u ≡ readCall bs t
-unfolding readCall loadBy refusalRead firstSome when brokenBy
+unfolding readCall loadBy refusalRead firstSome when faultyBy
 read-given bs h t u s e eh eu = rw (s, fault-none bs .1 e) (ap₂ (λ (x : Head) (y : Tables). loading (load.Is x) y) eh eu)
 
 -- ---- write

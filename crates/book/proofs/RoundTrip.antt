@@ -14,11 +14,13 @@ use Rattle.rules.specs.Book.{Book}
 use Rattle.rules.specs.Sound.{sound}
 use Rattle.rules.specs.Tests.{when, firstSome}
 use Rattle.rules.specs.Bytes.{Bytes, Tables, headIn, start, read, fault, isBook, bookIn, laid, write}
-use Rattle.rules.specs.Refusals.{short, brokenBy, refusalRead, refusalWrite}
+use Rattle.rules.specs.Refusals.{short, faultyBy, refusalRead, refusalWrite}
 use Rattle.rules.specs.Calls.{loading, loadBy, readCall, writing, writeBy, writeCall}
 use Rattle.rules.specs.declared.Head.{Head}
 use Rattle.rules.specs.declared.Refusal.{Refusal}
 use Rattle.rules.specs.declared.Refusal.the-variants.{ShortTable, ShortList}
+use Rattle.rules.specs.declared.Denial.{Denial}
+use Rattle.rules.specs.declared.Denial.the-variants.{Refused}
 use Rattle.rules.specs.declared.Fault.{Fault}
 use Rattle.rules.specs.declared.Loaded.the-variants as load
 use Rattle.rules.specs.declared.Stored.the-variants as store
@@ -57,8 +59,8 @@ pub record Loads (bs : List ℕ) (t : Tables) (h : Head) : Type 0 where
   pub head : h ≡ headIn bs
   pub tables′ : readCall bs t .tables ≡ laid (read bs) t
 
-passed : (s : Bool) (o : Option Fault) → firstSome (when s ShortTable ∷ brokenBy o ∷ []) ≡ none → (s ≡ false) × (o ≡ none)
-unfolding firstSome when brokenBy
+passed : (s : Bool) (o : Option Fault) → firstSome (when s (Refused ShortTable) ∷ faultyBy o ∷ []) ≡ none → (s ≡ false) × (o ≡ none)
+unfolding firstSome when faultyBy
 passed true o e = let z : _≡_ {A = ℕ} 0 1 = cc in absurd (omega arith)
 passed false (some f) e = let z : _≡_ {A = ℕ} 0 1 = cc in absurd (omega arith)
 passed false none e = (refl, refl)
@@ -67,11 +69,11 @@ pub loads : (bs : List ℕ) (t : Tables) (h : Head) → readCall bs t .answer �
 unfolding readCall loadBy refusalRead
 loads bs t h = go (refusalRead t bs) refl
   where
-    go : (o : Option Refusal) → refusalRead t bs ≡ o → loadBy o bs t .answer ≡ load.Is h → Loads bs t h
+    go : (o : Option Denial) → refusalRead t bs ≡ o → loadBy o bs t .answer ≡ load.Is h → Loads bs t h
     go (some r) e a = let z : _≡_ {A = ℕ} 0 1 = cc in absurd (omega arith)
     go none e a =
         let (l, b) = passed (short t) (fault bs) e in
-        record { long = l; book = fault-none bs .0 b; head = cc; tables′ = ap (λ (o : Option Refusal). loadBy o bs t .tables) e }
+        record { long = l; book = fault-none bs .0 b; head = cc; tables′ = ap (λ (o : Option Denial). loadBy o bs t .tables) e }
 
 -- ---- reading what was written
 

@@ -1,5 +1,6 @@
 // The book as bytes: sections, reading and writing. The five tables are iv, it, ov, ot, rs: inner vertices and tokens, outer vertices and tokens, resources.
 use layer::table::Found;
+use rules::Denial;
 use rules::Fault;
 use rules::Head;
 use rules::InnerTokens;
@@ -271,11 +272,11 @@ pub fn read(
     ensures { λ r. ⌜ loading r (tables (now (iv .exit)) (now (it .exit)) (now (ov .exit)) (now (ot .exit)) (now (rs .exit))) ≡ readCall (now (bytes .entry)) (tables (now (iv .entry)) (now (it .entry)) (now (ov .entry)) (now (ot .entry)) (now (rs .entry))) ⌝ }
 {
     if !long_enough(iv, it, ov, ot, rs) {
-        return Loaded::No(Refusal::ShortTable);
+        return Loaded::No(Denial::Refused(Refusal::ShortTable));
     }
     let w = first_fault(bytes);
     match w {
-        Wrong::First(f) => return Loaded::No(Refusal::Broken(f)),
+        Wrong::First(f) => return Loaded::No(Denial::Faulty(f)),
         Wrong::Nothing => {}
     }
     let h = head_in(bytes);
