@@ -7,6 +7,7 @@
 //! | [`side`] | the calls, what they are lent and what they answer |
 //! | [`engine`] | the C interface, made safe |
 //! | [`model`] | the reference program's lent face in the same shape |
+//! | [`damage`] | books damaged at a chosen row, rule by rule |
 //! | [`limits`] | books at, below and past each limit |
 //! | [`memory`] | lent stretches with canaries |
 //! | [`compare`] | one call on both sides; what differs; tallies |
@@ -32,6 +33,7 @@ pub mod books;
 pub mod clock;
 pub mod command;
 pub mod compare;
+pub mod damage;
 pub mod desk;
 pub mod engine;
 pub mod limits;

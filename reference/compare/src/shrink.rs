@@ -4,7 +4,7 @@ use std::cell::Cell as Counter;
 use std::fmt;
 
 use fenstubble_reference::book::{Book, Head, Mode, ResourceRow};
-use fenstubble_reference::bytes::{self, read_rows, HEAD_LENGTH, LIMITS, MARK, WIDTHS};
+use fenstubble_reference::bytes::{self, read_rows, HEAD_LENGTH, LIMITS, MODE_PLACE, WIDTHS};
 use fenstubble_reference::numbers::{InnerVertex, OuterVertex, User};
 use fenstubble_reference::sets::UserSet;
 
@@ -254,34 +254,43 @@ fn write_book(f: &mut fmt::Formatter<'_>, book: &Book) -> fmt::Result {
     row(f, TABLES[4], resources.collect())
 }
 
+/// The head in the bytes, of which there are enough for it, whatever else they
+/// are.
+pub(crate) fn head_in(bytes: &[u8]) -> Head {
+    let number = |at: usize| u16::from_le_bytes([bytes[at], bytes[at + 1]]);
+    Head {
+        mode: u16::from(bytes[5]),
+        users: u16::from(bytes[6]),
+        resources: number(7),
+        inner_vertices: number(9),
+        inner_tokens: number(11),
+        outer_vertices: number(13),
+        outer_tokens: number(15),
+    }
+}
+
 /// Bytes that are at least a head and the rows it asks for.
 #[derive(Clone, Debug)]
-struct Loose {
-    mark: [u8; 5],
-    book: Book,
+pub(crate) struct Loose {
+    /// The bytes before the mode.
+    mark: [u8; MODE_PLACE],
+    /// The book, sound or not.
+    pub(crate) book: Book,
     /// What comes after the rows.
     tail: Vec<u8>,
 }
 
 impl Loose {
-    fn of(bytes: &[u8]) -> Option<Loose> {
-        let number = |at: usize| u16::from_le_bytes([bytes[at], bytes[at + 1]]);
+    /// Those of a head and its rows, if there are so many bytes.
+    pub(crate) fn of(bytes: &[u8]) -> Option<Loose> {
         if bytes.len() < HEAD_LENGTH {
             return None;
         }
-        let head = Head {
-            mode: u16::from(bytes[5]),
-            users: u16::from(bytes[6]),
-            resources: number(7),
-            inner_vertices: number(9),
-            inner_tokens: number(11),
-            outer_vertices: number(13),
-            outer_tokens: number(15),
-        };
+        let head = head_in(bytes);
         let sections = bytes::sections(&head);
         let part = |k: usize| bytes.get(sections[k].clone());
         Some(Loose {
-            mark: bytes[..5].try_into().ok()?,
+            mark: bytes[..MODE_PLACE].try_into().ok()?,
             book: Book {
                 mode: head.mode,
                 users: head.users,
@@ -295,9 +304,15 @@ impl Loose {
         })
     }
 
+    /// Whether there is anything after the rows.
+    #[cfg(feature = "self-test")]
+    pub(crate) fn has_tail(&self) -> bool {
+        !self.tail.is_empty()
+    }
+
     fn bytes(&self) -> Vec<u8> {
         let mut bytes = bytes::write(&self.book);
-        bytes[..MARK.len()].copy_from_slice(&self.mark);
+        bytes[..MODE_PLACE].copy_from_slice(&self.mark);
         bytes.extend_from_slice(&self.tail);
         bytes
     }
