@@ -93,9 +93,21 @@ const fn head(number: u8, name: &'static str, does: Head) -> Kind {
 
 /// All kinds, by number.
 pub const KINDS: [Kind; 50] = [
-    head(20, "the mark", mark),
-    head(21, "the version", version),
-    head(22, "the mode", mode),
+    head(20, "the mark", |random, bytes| {
+        if let Some(byte) = bytes.get_mut(random.below(3)) {
+            *byte ^= random.between(1, 255) as u8;
+        }
+    }),
+    head(21, "the version", |random, bytes| {
+        if let Some(byte) = bytes.get_mut(random.between(3, 4)) {
+            *byte ^= random.between(1, 255) as u8;
+        }
+    }),
+    head(22, "the mode", |random, bytes| {
+        if let Some(byte) = bytes.get_mut(5) {
+            *byte = random.between(2, 255) as u8;
+        }
+    }),
     head(23, "a count", |random, bytes| {
         let first = random.below(COUNT_PLACES.len());
         over(random, bytes, first);
@@ -407,24 +419,6 @@ pub const KINDS: [Kind; 50] = [
         Some(())
     }),
 ];
-
-fn mark(random: &mut Random, bytes: &mut Vec<u8>) {
-    if let Some(byte) = bytes.get_mut(random.below(3)) {
-        *byte ^= random.between(1, 255) as u8;
-    }
-}
-
-fn version(random: &mut Random, bytes: &mut Vec<u8>) {
-    if let Some(byte) = bytes.get_mut(random.between(3, 4)) {
-        *byte ^= random.between(1, 255) as u8;
-    }
-}
-
-fn mode(random: &mut Random, bytes: &mut Vec<u8>) {
-    if let Some(byte) = bytes.get_mut(5) {
-        *byte = random.between(2, 255) as u8;
-    }
-}
 
 /// Puts a count over its limit: by one, by some, or as far as there is.
 fn over(random: &mut Random, bytes: &mut [u8], count: usize) {

@@ -15,10 +15,11 @@
 //! | [`report`] | a difference with its seed and smallest case; bounded runs |
 //! | [`books`] | check, section, read and write |
 //! | [`requests`] | join, insert, grant, revoke, view and open; serve |
-//! | [`desk`] | the engine's request program as a process |
+//! | [`process`] | a program of the engine as a process |
 //! | [`lines`] | lines of scripts, fine and malformed |
 //! | [`script`] | one script on both programs; smaller scripts that still differ |
 //! | [`scripts`] | whole scripts, program against program |
+//! | [`inspections`] | a book's bytes, check program against check program |
 //! | [`worlds`] | the books that are measured |
 //! | [`bench`], [`clock`] | the measurements; processor time |
 //! | [`stack`] | the stack that a call takes |
@@ -34,12 +35,14 @@ pub mod clock;
 pub mod command;
 pub mod compare;
 pub mod damage;
-pub mod desk;
+
 pub mod engine;
+pub mod inspections;
 pub mod limits;
 pub mod lines;
 pub mod memory;
 pub mod model;
+pub mod process;
 pub mod report;
 pub mod requests;
 pub mod script;

@@ -51,7 +51,11 @@ impl Case {
             case = case.with_requests(&rows.concat());
         }
         match case.call {
-            Call::Section(_) | Call::Read => case.smallest_bytes(differs),
+            Call::Section(_) | Call::Read => {
+                let given = case.lent.book.content();
+                let bytes = smallest_bytes(given, |bytes| differs(&case.with_bytes(bytes)));
+                case.with_bytes(&bytes)
+            }
             _ => match case.lent.book_in_tables() {
                 Some(book) => {
                     let book = smallest_book(book, |book| differs(&case.with_book(book)));
@@ -89,41 +93,6 @@ impl Case {
         let mut case = self.clone();
         case.lent.book = Memory::of(bytes);
         case
-    }
-
-    fn smallest_bytes(self, differs: impl Fn(&Case) -> bool) -> Case {
-        let given = self.lent.book.content();
-        let Some(loose) = Loose::of(given) else {
-            // Not even a head and its rows: any bytes less.
-            let bytes = fewer(given, |bytes| differs(&self.with_bytes(bytes)));
-            return self.with_bytes(&bytes);
-        };
-        let tail = fewer(&loose.tail, |tail| {
-            let tail = tail.to_vec();
-            differs(
-                &self.with_bytes(
-                    &Loose {
-                        tail,
-                        ..loose.clone()
-                    }
-                    .bytes(),
-                ),
-            )
-        });
-        let loose = Loose { tail, ..loose };
-        let book = smallest_book(loose.book.clone(), |book| {
-            let book = book.clone();
-            differs(
-                &self.with_bytes(
-                    &Loose {
-                        book,
-                        ..loose.clone()
-                    }
-                    .bytes(),
-                ),
-            )
-        });
-        self.with_bytes(&Loose { book, ..loose }.bytes())
     }
 
     /// The same call on the tables of another book.
@@ -166,10 +135,7 @@ impl fmt::Display for Case {
         writeln!(f, "{}", self.call)?;
         let lent = &self.lent;
         if matches!(self.call, Call::Section(_) | Call::Read) {
-            write_bytes(f, "a book", lent.book.content())?;
-            if let Some(loose) = Loose::of(lent.book.content()) {
-                write_book(f, &loose.book)?;
-            }
+            write!(f, "{}", Shown(lent.book.content()))?;
         }
         if matches!(self.call, Call::Section(_)) {
             return Ok(());
@@ -211,6 +177,21 @@ impl fmt::Display for Case {
             }
         }
         Ok(())
+    }
+}
+
+/// A book's bytes for the eye, and their rows if there are as many as the head
+/// says.
+#[derive(Clone, Copy, Debug)]
+pub struct Shown<'a>(pub &'a [u8]);
+
+impl fmt::Display for Shown<'_> {
+    fn fmt(&self, f: &mut fmt::Formatter<'_>) -> fmt::Result {
+        write_bytes(f, "a book", self.0)?;
+        match Loose::of(self.0) {
+            Some(loose) => write_book(f, &loose.book),
+            None => Ok(()),
+        }
     }
 }
 
@@ -316,6 +297,27 @@ impl Loose {
         bytes.extend_from_slice(&self.tail);
         bytes
     }
+}
+
+/// The smallest bytes found that still differ: fewer behind the rows, then
+/// fewer rows and users; or fewer of any, where there is no head with its rows.
+pub fn smallest_bytes(given: &[u8], differs: impl Fn(&[u8]) -> bool) -> Vec<u8> {
+    let Some(loose) = Loose::of(given) else {
+        return fewer(given, differs);
+    };
+    let with_tail = |tail: &[u8]| Loose {
+        tail: tail.to_vec(),
+        ..loose.clone()
+    };
+    let loose = with_tail(&fewer(&loose.tail, |tail| {
+        differs(&with_tail(tail).bytes())
+    }));
+    let with_book = |book: &Book| Loose {
+        book: book.clone(),
+        ..loose.clone()
+    };
+    let book = smallest_book(loose.book.clone(), |book| differs(&with_book(book).bytes()));
+    with_book(&book).bytes()
 }
 
 /// As few of these as found that still differ: parts are left out, long ones

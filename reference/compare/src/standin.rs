@@ -119,7 +119,7 @@ unsafe fn slice<'a, T>(start: *const T, length: usize) -> &'a mut [T] {
 fn placed(call: Call, lent: &mut Lending) -> (u16, [usize; 2], usize) {
     if !matches!(call, Call::Section(_)) {
         CALLS.set(CALLS.get() + 1);
-        if planted(Fault::Every300th) && CALLS.get() % 300 == 0 {
+        if planted(Fault::Every300th) && CALLS.get().is_multiple_of(300) {
             return (13, [0, 0], 0);
         }
     }
