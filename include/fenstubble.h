@@ -293,24 +293,28 @@ static inline const char *fenstubble_reason(uint16_t result) {
     }
 }
 
-/* The row that a place along with 31 to 38 tells, from the header of the same bytes, FENSTUBBLE_BOOK_HEADER of them at least: the result is its section
- * (enum fenstubble_section_number), and *row its number there. It is FENSTUBBLE_SECTIONS, and *row 0, where no row is at that place, as with
- * FENSTUBBLE_NO_ROW. */
-static inline int fenstubble_row_at(const uint8_t *book, size_t place, size_t *row) {
+/* a row of a book's bytes: its section (enum fenstubble_section_number), and its number there */
+struct fenstubble_row {
+    size_t section, number;
+};
+
+/* The row at a place of a book's bytes, such as 31 to 38 tell, by the counts in their header: FENSTUBBLE_BOOK_HEADER bytes are looked at. Where no row is
+ * there, as at FENSTUBBLE_NO_ROW, the section is FENSTUBBLE_SECTIONS. */
+static inline struct fenstubble_row fenstubble_row_at(const uint8_t *book, size_t place) {
     static const uint8_t counts[] = {9, 11, 13, 15, 7}; /* where the header has them */
     static const uint8_t widths[] = {FENSTUBBLE_INNER_VERTICES_WIDTH, FENSTUBBLE_INNER_TOKENS_WIDTH, FENSTUBBLE_OUTER_VERTICES_WIDTH,
                                      FENSTUBBLE_OUTER_TOKENS_WIDTH, FENSTUBBLE_RESOURCES_WIDTH};
+    struct fenstubble_row row = {0, 0};
     size_t start = FENSTUBBLE_BOOK_HEADER;
-    *row = 0;
-    for (int k = 0; k < FENSTUBBLE_SECTIONS; k++) {
-        size_t end = start + (book[counts[k]] + 256u * book[counts[k] + 1]) * widths[k];
+    for (; row.section < FENSTUBBLE_SECTIONS; row.section++) {
+        size_t count = book[counts[row.section]] + 256u * book[counts[row.section] + 1], end = start + count * widths[row.section];
         if (start <= place && place < end) {
-            *row = (place - start) / widths[k];
-            return k;
+            row.number = (place - start) / widths[row.section];
+            break;
         }
         start = end;
     }
-    return FENSTUBBLE_SECTIONS;
+    return row;
 }
 
 /* ---- the calls. Behind each stand the refusals that it can give, in the order in which they are judged: the first that holds is given. */
