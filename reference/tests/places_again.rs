@@ -242,11 +242,13 @@ fn the_same_by_both_on_large_books() {
         let shape = Shape::full(random);
         let mut book = generate::book(random, &shape);
         // Equal rows far from each other, in the place of another row.
-        let (one, two) = (random.below(2000), random.between(2000, 3900));
+        let (inner, outer) = (&mut book.inner_tokens, &mut book.outer_tokens);
         if round % 2 == 0 {
-            book.outer_tokens[two] = book.outer_tokens[one];
+            let late = random.between(outer.len() / 2, outer.len() - 1);
+            outer[late] = outer[random.below(outer.len() / 2)];
         } else {
-            book.inner_tokens[two] = book.inner_tokens[one];
+            let late = random.between(inner.len() / 2, inner.len() - 1);
+            inner[late] = inner[random.below(inner.len() / 2)];
         }
         let mut given = bytes::write(&book);
         if random.chance(1, 4) {
