@@ -23,16 +23,22 @@ use Rattle.lines.specs.Answer.{numeral}
 unfoldable pub modeText : ℕ → List ℕ
 modeText m = cond (eqb m 0) (bytes "mode full\n") (bytes "mode delta\n")
 
-unfoldable pub headText : Head → List ℕ
-headText h =
+unfoldable pub peopleText : Head → List ℕ
+peopleText h =
     bytes "sound\n"
     ++ (modeText (h .mode .0)
     ++ ((bytes "users " ++ numeral (h .users .0) 10)
-    ++ ((bytes "folders " ++ numeral (h .resources .0) 10)
-    ++ ((bytes "inner vertices " ++ numeral (h .«inner_vertices» .0) 10)
+    ++ (bytes "folders " ++ numeral (h .resources .0) 10)))
+
+unfoldable pub layersText : Head → List ℕ
+layersText h =
+    (bytes "inner vertices " ++ numeral (h .«inner_vertices» .0) 10)
     ++ ((bytes "inner tokens " ++ numeral (h .«inner_tokens» .0) 10)
     ++ ((bytes "outer vertices " ++ numeral (h .«outer_vertices» .0) 10)
-    ++ (bytes "outer tokens " ++ numeral (h .«outer_tokens» .0) 10)))))))
+    ++ (bytes "outer tokens " ++ numeral (h .«outer_tokens» .0) 10)))
+
+unfoldable pub headText : Head → List ℕ
+headText h = peopleText h ++ layersText h
 
 -- ---- any other bytes: "the first is `no K PLACE`, the number and the place of 9.10"
 

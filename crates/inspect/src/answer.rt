@@ -11,7 +11,7 @@ ghost use mathlib.Core.List.{_++_};
 ghost use Prim.Native.Nat.{_+_, _≤_};
 ghost use lib.ListN.{length};
 ghost use Rattle.lines.specs.Answer.{Puts};
-ghost use Rattle.inspect.specs.Text.{Headed, grown, modeText, headText, refusedText, brokenText, shortText};
+ghost use Rattle.inspect.specs.Text.{Headed, grown, modeText, peopleText, layersText, headText, refusedText, brokenText, shortText};
 
 // The fault of an input of which only the front was judged: a wrong length is that of the whole.
 fn grow(f: Fault, total: usize) -> Fault
@@ -34,20 +34,42 @@ fn put_mode(mode: u16, out: &mut [u8], at: usize) -> usize
     put_words(b"mode delta\n", out, at)
 }
 
+// `sound`, the mode, the users and the folders.
+fn put_people(h: Head, out: &mut [u8]) -> usize
+    requires { ⌜ 512 ≤ length (now out) ⌝ }
+    ensures { λ r. ⌜ Puts (peopleText h) 0 (now (out .entry)) r (now (out .exit)) ⌝ }
+    ensures { λ r. ⌜ r ≤ 100 ⌝ }
+{
+    let a = put_words(b"sound\n", out, 0);
+    let b = put_mode(h.mode.0, out, a);
+    let c = put_number(b"users ", h.users.0 as u64, b'\n', out, b);
+    put_number(b"folders ", h.resources.0 as u64, b'\n', out, c)
+}
+
+// The vertices and the tokens.
+fn put_layers(h: Head, out: &mut [u8], at: usize) -> usize
+    requires { ⌜ at + 200 ≤ length (now out) ⌝ }
+    ensures { λ r. ⌜ Puts (layersText h) at (now (out .entry)) r (now (out .exit)) ⌝ }
+{
+    let a = put_number(
+        b"inner vertices ",
+        h.inner_vertices.0 as u64,
+        b'\n',
+        out,
+        at,
+    );
+    let b = put_number(b"inner tokens ", h.inner_tokens.0 as u64, b'\n', out, a);
+    let c = put_number(b"outer vertices ", h.outer_vertices.0 as u64, b'\n', out, b);
+    put_number(b"outer tokens ", h.outer_tokens.0 as u64, b'\n', out, c)
+}
+
 // `sound` and the head, in eight lines.
 fn put_head(h: Head, out: &mut [u8]) -> usize
     requires { ⌜ 512 ≤ length (now out) ⌝ }
     ensures { λ r. ⌜ Puts (headText h) 0 (now (out .entry)) r (now (out .exit)) ⌝ }
 {
-    let last = b'\n';
-    let a = put_words(b"sound\n", out, 0);
-    let b = put_mode(h.mode.0, out, a);
-    let c = put_number(b"users ", h.users.0 as u64, last, out, b);
-    let d = put_number(b"folders ", h.resources.0 as u64, last, out, c);
-    let e = put_number(b"inner vertices ", h.inner_vertices.0 as u64, last, out, d);
-    let f = put_number(b"inner tokens ", h.inner_tokens.0 as u64, last, out, e);
-    let g = put_number(b"outer vertices ", h.outer_vertices.0 as u64, last, out, f);
-    put_number(b"outer tokens ", h.outer_tokens.0 as u64, last, out, g)
+    let end = put_people(h, out);
+    put_layers(h, out, end)
 }
 
 // `no K PLACE`.
