@@ -102,6 +102,22 @@ static void open_folder(const struct book *book, uint16_t user, uint16_t resourc
     printf("  open\n");
 }
 
+/* A book's bytes into a book. Where they are no sound book, a person is told the number, the place, the row that starts there, and the reason. */
+static uint16_t read_book(struct book *book, const uint8_t *bytes, size_t length) {
+    static const char *const sections[] = {"inner vertex", "inner token", "outer vertex", "outer token", "folder"};
+    size_t place;
+    uint16_t result = fenstubble_read(bytes, length, BOOK(book), &place);
+    if (result == FENSTUBBLE_DONE)
+        return result;
+    printf("  refused: %u at %zu", result, place);
+    if (result >= FENSTUBBLE_BROKEN_S1 && place != FENSTUBBLE_NO_ROW) {
+        struct fenstubble_row row = fenstubble_row_at(bytes, place);
+        printf(", %s row %zu", sections[row.section], row.number);
+    }
+    printf(": %s\n", fenstubble_reason(result));
+    return result;
+}
+
 static void to_file(const char *path, const uint8_t *bytes, size_t length) {
     FILE *file = fopen(path, "wb");
     expect(file && fwrite(bytes, 1, length, file) == length && fclose(file) == 0, "a file that can be written");
@@ -117,7 +133,7 @@ static size_t from_file(const char *path, uint8_t *bytes, size_t most) {
 
 int main(int argc, char **argv) {
     static struct book book, again;
-    static uint8_t bytes[FENSTUBBLE_BOOK_BYTES], back[FENSTUBBLE_BOOK_BYTES + 1]; /* one more: a longer file is no book */
+    static uint8_t bytes[FENSTUBBLE_BOOK_BYTES], back[FENSTUBBLE_BOOK_BYTES + 1]; /* one more: a longer file is refused */
     size_t length, length_back;
 
     if (argc != 2) {
@@ -160,7 +176,7 @@ int main(int argc, char **argv) {
     length_back = from_file(argv[1], back, sizeof back);
     printf("write the book: %zu bytes\n", length);
     memset(&again, 0xFF, sizeof again);
-    expect(fenstubble_read(back, length_back, BOOK(&again)) == FENSTUBBLE_DONE, "a book that can be read");
+    expect(read_book(&again, back, length_back) == FENSTUBBLE_DONE, "a book that can be read");
     expect(memcmp(again.head, book.head, sizeof book.head) == 0, "the same head");
     expect(fenstubble_write(BOOK(&again), back, sizeof back, &length_back) == FENSTUBBLE_DONE, "a book that can be written again");
     expect(length_back == length && memcmp(back, bytes, length) == 0, "the same book");
@@ -173,7 +189,7 @@ int main(int argc, char **argv) {
     /* Nothing that is not a sound book is taken for one. */
     back[length - 4] ^= 1;
     printf("read it with one bit changed\n");
-    refused(fenstubble_read(back, length, BOOK(&again)), FENSTUBBLE_UNSOUND);
+    expect(read_book(&again, back, length) == FENSTUBBLE_BROKEN_S7, "a damaged book that is refused");
 
     printf("all as expected\n");
     return 0;

@@ -23,8 +23,20 @@ using Order = std::array<unsigned, FENSTUBBLE_ORDER_WIDTH>;
 // A call that said no and changed nothing.
 struct Refused : std::runtime_error {
     std::uint16_t result;
-    explicit Refused(std::uint16_t r) : std::runtime_error(fenstubble_reason(r)), result(r) {}
+    explicit Refused(std::uint16_t r) : Refused(r, fenstubble_reason(r)) {}
+    Refused(std::uint16_t r, const std::string &text) : std::runtime_error(text), result(r) {}
 };
+
+// Bytes that are no sound book, in words: the number, the place, the row that starts there, and the reason.
+std::string broken(const Bytes &bytes, std::uint16_t result, std::size_t place) {
+    static const char *const sections[] = {"inner vertex", "inner token", "outer vertex", "outer token", "folder"};
+    std::string text = std::to_string(result) + " at " + std::to_string(place);
+    if (result >= FENSTUBBLE_BROKEN_S1 && place != FENSTUBBLE_NO_ROW) {
+        const fenstubble_row row = fenstubble_row_at(bytes.data(), place);
+        text += std::string(", ") + sections[row.section] + " row " + std::to_string(row.number);
+    }
+    return text + ": " + fenstubble_reason(result);
+}
 
 void done(std::uint16_t result) {
     if (result != FENSTUBBLE_DONE)
@@ -68,9 +80,12 @@ public:
 
     // What stands in the tables does not count.
     explicit Book(const Bytes &bytes) {
-        done(fenstubble_read(bytes.data(), bytes.size(), head.data(), head.size(), inner_vertices.data(), inner_vertices.size(), inner_tokens.data(),
-                             inner_tokens.size(), outer_vertices.data(), outer_vertices.size(), outer_tokens.data(), outer_tokens.size(),
-                             resources.data(), resources.size()));
+        std::size_t place;
+        std::uint16_t result = fenstubble_read(bytes.data(), bytes.size(), head.data(), head.size(), inner_vertices.data(), inner_vertices.size(),
+                                               inner_tokens.data(), inner_tokens.size(), outer_vertices.data(), outer_vertices.size(),
+                                               outer_tokens.data(), outer_tokens.size(), resources.data(), resources.size(), &place);
+        if (result != FENSTUBBLE_DONE)
+            throw Refused(result, broken(bytes, result, place));
     }
 
     unsigned users() const { return head[FENSTUBBLE_HEAD_USERS]; }
@@ -131,15 +146,15 @@ void accepted(const std::vector<Order> &orders) {
         obey(order);
 }
 
-template <class Request> void refused(Request request, unsigned number) {
+// The refusal of a call that must be refused with that number.
+template <class Call> Refused refused(Call call, unsigned number) {
     try {
-        request();
+        call();
     } catch (const Refused &no) {
         expect(no.result == number, no.what());
-        std::printf("  refused: %u\n", number);
-        return;
+        return no;
     }
-    expect(false, "a request that is refused");
+    throw std::runtime_error("a call that is refused");
 }
 
 void open_folder(Book &book, unsigned user, unsigned folder, int expected) {
@@ -183,9 +198,9 @@ void keep(const std::string &path) {
     open_folder(book, 1, 0, FENSTUBBLE_VIEW_OUTER_LOCKED);
     open_folder(book, 0, 0, FENSTUBBLE_VIEW_OPEN);
     std::printf("revoke folder 0 from person 1 again\n");
-    refused([&] { book.revoke(0, 1); }, FENSTUBBLE_NOT_LISTED);
+    std::printf("  refused: %u\n", refused([&] { book.revoke(0, 1); }, FENSTUBBLE_NOT_LISTED).result);
     std::printf("grant folder 0 to person 9\n");
-    refused([&] { book.grant(0, 9); }, FENSTUBBLE_NO_SUCH);
+    std::printf("  refused: %u\n", refused([&] { book.grant(0, 9); }, FENSTUBBLE_NO_SUCH).result);
 
     // To a file, and back into tables that know nothing of it.
     const Bytes bytes = book.write();
@@ -207,7 +222,7 @@ void keep(const std::string &path) {
     // Nothing that is not a sound book is taken for one.
     back[bytes.size() - 4] ^= 1;
     std::printf("read it with one bit changed\n");
-    refused([&] { Book damaged(back); }, FENSTUBBLE_UNSOUND);
+    std::printf("  refused: %s\n", refused([&] { Book damaged(back); }, FENSTUBBLE_BROKEN_S7).what());
     std::printf("all as expected\n");
 }
 

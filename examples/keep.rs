@@ -35,7 +35,7 @@ macro_rules! calls {
 
 calls! {
     fn fenstubble_check(; head, tables;);
-    fn fenstubble_read(book: *const u8, book_len: usize; head, tables;);
+    fn fenstubble_read(book: *const u8, book_len: usize; head, tables; place: *mut usize);
     fn fenstubble_write(; head, tables; buffer: *mut u8, buffer_len: usize, length: *mut usize);
     fn fenstubble_join(; head, tables; orders: *mut u16, orders_len: usize, count: *mut u16);
     fn fenstubble_insert(; head, tables; orders: *mut u16, orders_len: usize, count: *mut u16, list: *const u8, list_len: usize);
@@ -45,7 +45,7 @@ calls! {
 }
 
 // The header's numbers, without their FENSTUBBLE_.
-const VERSION: u32 = 10000;
+const VERSION: u32 = 20000;
 const HEAD_LEN: usize = 7;
 const INNER_VERTICES_BYTES: usize = 320 * 8;
 const INNER_TOKENS_BYTES: usize = 4096 * 5;
@@ -53,15 +53,46 @@ const OUTER_VERTICES_BYTES: usize = 512 * 8;
 const OUTER_TOKENS_BYTES: usize = 4096 * 4;
 const RESOURCES_BYTES: usize = 256 * 12;
 const SET_BYTES: usize = 8;
+const BOOK_HEADER: usize = 17;
 const BOOK_BYTES: usize = 46_609;
 const ORDER_ROWS: usize = 385;
 const OPEN_ROWS: usize = 126;
 const MODE_DELTA: u16 = 1;
 const NO_OUTER: u16 = 65535;
+const NO_ROW: usize = 65535;
 const NO_SUCH: u16 = 1;
 const NOT_LISTED: u16 = 6;
 const CLOSED: u16 = 11;
-const UNSOUND: u16 = 12;
+const BROKEN_S1: u16 = 31;
+const BROKEN_S7: u16 = 37;
+
+/// The header's words for bytes that are no sound book.
+#[rustfmt::skip]
+const REASONS: [(u16, &str); 13] = [
+    (20, "the bytes do not begin with the mark of a book, TKB"),
+    (21, "the book's version is not 1"),
+    (22, "the book's mode is neither 0 nor 1"),
+    (23, "a count in the book's header is over its limit"),
+    (24, "the length is not that of the book's header and rows"),
+    (31, "S1 is broken: the row has a kind above 1, a vertex that is not there, or a user who has not joined"),
+    (32, "S2 is broken: a user has no own vertex, a token leads to one, or an inner vertex has the empty set"),
+    (33, "S3 is broken: an earlier vertex of the layer has the same set"),
+    (34, "S4 is broken: the set where the token starts is empty, or no proper part of the set that it leads to"),
+    (35, "S5 is broken: the group's set is not made of the sets from which tokens lead to it"),
+    (36, "S6 is broken: the access token starts at no user's own vertex, or leads to a set with that user, or the token is there twice"),
+    (37, "S7 is broken: the folder's list names a user who does not derive its inner key"),
+    (38, "S8 is broken: the folder's outer lock is not what its mode and its list ask for"),
+];
+
+/// The sections of a book's bytes: what a row is, where the header counts the
+/// rows, and how many bytes a row has.
+const SECTIONS: [(&str, usize, usize); 5] = [
+    ("inner vertex", 9, 8),
+    ("inner token", 11, 5),
+    ("outer vertex", 13, 8),
+    ("outer token", 15, 4),
+    ("folder", 7, 12),
+];
 
 /// A book: a head and five tables, all of them ours.
 struct Book {
@@ -97,6 +128,33 @@ macro_rules! call {
 /// number, for 11 with the view in its upper byte.
 #[derive(Debug, PartialEq)]
 struct No(u16);
+
+/// Bytes that are no sound book: the number, the place, the row that starts
+/// there, and the reason.
+fn broken(bytes: &[u8], number: u16, place: usize) -> String {
+    let row = if number >= BROKEN_S1 && place != NO_ROW {
+        row_at(bytes, place)
+    } else {
+        String::new()
+    };
+    let reason = REASONS.iter().find(|(n, _)| *n == number);
+    let (_, reason) = reason.unwrap_or(&(0, "no such refusal"));
+    format!("{number} at {place}{row}: {reason}")
+}
+
+/// The row at a place of a book's bytes, by the counts in their header.
+fn row_at(bytes: &[u8], place: usize) -> String {
+    let mut start = BOOK_HEADER;
+    for (name, count, width) in SECTIONS {
+        let rows = usize::from(u16::from_le_bytes([bytes[count], bytes[count + 1]]));
+        let end = start + rows * width;
+        if (start..end).contains(&place) {
+            return format!(", {name} row {}", (place - start) / width);
+        }
+        start = end;
+    }
+    String::new()
+}
 
 /// The rows of an accepted request, to be obeyed in their order. A host with
 /// real keys keeps them together with the new book, in one step, before it
@@ -181,11 +239,11 @@ impl Book {
         done(result, buffer)
     }
 
-    fn read(&mut self, bytes: &[u8]) -> Result<(), No> {
-        done(
-            call!(fenstubble_read(bytes.as_ptr(), bytes.len(); self;)),
-            (),
-        )
+    /// Bytes that are no sound book are told in words.
+    fn read(&mut self, bytes: &[u8]) -> Result<(), (No, String)> {
+        let mut place = 0;
+        let result = call!(fenstubble_read(bytes.as_ptr(), bytes.len(); self; &mut place));
+        done(result, ()).map_err(|no| (no, broken(bytes, result, place)))
     }
 }
 
@@ -290,7 +348,7 @@ fn keep(file: &Path) -> Result<(), String> {
     println!("write the book: {} bytes", bytes.len());
     let mut back = fs::read(file).map_err(|_| "a file that can be read")?;
     let mut again = Book::empty_delta(0xFF);
-    expect(again.read(&back).is_ok(), "a book that can be read")?;
+    again.read(&back).map_err(|(_, told)| told)?;
     expect(again.head == book.head, "the same head")?;
     expect(again.write().as_ref() == Ok(&bytes), "the same book")?;
     println!("read it back: the same book");
@@ -301,11 +359,11 @@ fn keep(file: &Path) -> Result<(), String> {
 
     // Nothing that is not a sound book is taken for one.
     back[bytes.len() - 4] ^= 1;
-    expect(
-        again.read(&back) == Err(No(UNSOUND)),
-        "a damaged book that is refused",
-    )?;
-    println!("read it with one bit changed\n  refused: {UNSOUND}");
+    println!("read it with one bit changed");
+    match again.read(&back) {
+        Err((No(BROKEN_S7), told)) => println!("  refused: {told}"),
+        other => return Err(format!("a damaged book that is refused, not {other:?}")),
+    }
 
     println!("all as expected");
     Ok(())

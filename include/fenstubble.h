@@ -50,11 +50,25 @@
  *
  * THE RESULT of a call is 0 (done) or the number of the refusal; 11 comes as 11 + 256 * view. FENSTUBBLE_NUMBER and FENSTUBBLE_VIEW take it apart, and
  * fenstubble_reason says it in words. Look at it first: a refused call leaves all that it was lent as it was, head, tables, lists and buffers, and the
- * cells for an answer too (count, view, start, length and so on), which then tell nothing. An accepted one leaves what stands behind its answer in a
- * list or a buffer.
+ * cells for an answer too (count, view, start, length and so on), which then tell nothing; only the cell for a place is always written. An accepted
+ * call leaves what stands behind its answer in a list or a buffer.
  *
  * A book is SOUND if its sets, tokens and locks fit each other, as they do in every book that these calls leave from the empty one (RULES.md, S1 to
- * S8, is installed in share/doc/fenstubble). Any content is safe to lend: what is not a sound book is refused with 12, before anything but lengths.
+ * S8, is installed in share/doc/fenstubble). Any content is safe to lend: tables that do not hold a sound book are refused with 12, before anything but
+ * lengths.
+ *
+ * BYTES THAT ARE NO SOUND BOOK are refused with a number and a place. These are judged from top to bottom, and the first that holds is told:
+ *
+ *   number     holds if                                      place
+ *   24         there are fewer than 17 bytes                 how many there are
+ *   20         they do not begin with "TKB"                  0
+ *   21         the version is not 1                          3
+ *   22         the mode is neither 0 nor 1                   5
+ *   23         a count is over its limit                     where the first such count starts: 6, 7, 9, 11, 13 or 15
+ *   24         the length is not that of header and rows     how many bytes there are, be it 65535 or more
+ *   31 to 38   S1 to S8, in this order, is broken            where the first row that breaks it starts; 65535 with 32: a user's own vertex is missing
+ *
+ * fenstubble_read and fenstubble_section tell it so, and fenstubble_row_at makes section and row of a place.
  *
  * ORDERS are rows of three numbers: kind, a, b (enum fenstubble_order). The host obeys them in their order. The new book and its orders are kept
  * together, in one step (one file replaced, one transaction), before the first order is obeyed; a host that was stopped obeys them all again, from the
@@ -69,7 +83,7 @@
  *   - Nothing that a call may write (what is not const) overlaps anything else that it is lent.
  *   - Pointers to uint16_t, uint64_t and size_t are aligned as their type asks; bytes need no alignment.
  *   - A pointer may be NULL only where its length is 0. A head, table or set of length 0 is too short (13); a list of length 0 has room for nothing
- *     (10, where there is a row to give). The cells (count, view, inner, outer, start, length, used) are never NULL.
+ *     (10, where there is a row to give). The cells (count, view, inner, outer, start, length, place, used) are never NULL.
  *   - While a call runs, nobody else writes what it was lent or reads what it may write. There is no state and nothing is kept between calls: threads
  *     may call at once on different books, and on one book in calls that take it as const.
  *   - A call uses at most FENSTUBBLE_STACK_BYTES of stack (measured), its arguments there included, and also where the walk of an open calls itself, at
@@ -89,8 +103,8 @@ extern "C" {
 #endif
 
 /* major * 10000 + minor * 100 + patch */
-#define FENSTUBBLE_VERSION 10000
-#define FENSTUBBLE_VERSION_TEXT "1.0.0"
+#define FENSTUBBLE_VERSION 20000
+#define FENSTUBBLE_VERSION_TEXT "2.0.0"
 
 /* ---- limits and sizes */
 
@@ -127,6 +141,7 @@ extern "C" {
 #define FENSTUBBLE_BOOK_BYTES 46609 /* of the largest book: the header and all tables full */
 
 #define FENSTUBBLE_NO_OUTER 65535 /* in the place of an outer vertex: none */
+#define FENSTUBBLE_NO_ROW 65535   /* a place along with 32: a vertex is missing, so that no row is there to be told */
 
 /* numbers of a row in an order list, and in the requests and answers of fenstubble_serve */
 #define FENSTUBBLE_ORDER_WIDTH 3
@@ -171,6 +186,7 @@ enum fenstubble_token_kind {
 };
 
 /* the sections of a book's bytes, with a row of each: that of its table */
+#define FENSTUBBLE_SECTIONS 5
 enum fenstubble_section_number {
     FENSTUBBLE_SECTION_INNER_VERTICES = 0, /* set */
     FENSTUBBLE_SECTION_INNER_TOKENS = 1,   /* from, to, kind (enum fenstubble_token_kind) */
@@ -216,36 +232,89 @@ enum fenstubble_refusal {
     FENSTUBBLE_OUTER_TOKENS_FULL = 9, /* more than 4096 outer tokens */
     FENSTUBBLE_SHORT_ANSWER = 10,     /* the list or buffer lent for the answer is too short */
     FENSTUBBLE_CLOSED = 11,           /* an open whose view is not 0: the view comes with it */
-    FENSTUBBLE_UNSOUND = 12,          /* the head and tables, or the bytes, are not a sound book. Judged before all but 13 */
+    FENSTUBBLE_UNSOUND = 12,          /* the head and tables do not hold a sound book. Judged before all but 13 */
     FENSTUBBLE_SHORT_TABLE = 13,      /* a head of fewer than 7 numbers, a table shorter than its limit, a set of fewer than 8 bytes */
-    FENSTUBBLE_MALFORMED = 14         /* a line that is no request: from the program `fenstubble` alone, never from a call */
+    FENSTUBBLE_MALFORMED = 14,        /* a line that is no request: from the program `fenstubble` alone, never from a call */
+
+    /* of a book's bytes, each with a place: the header, then the rules of a sound book */
+    FENSTUBBLE_WRONG_MARK = 20,    /* not "TKB" */
+    FENSTUBBLE_WRONG_VERSION = 21, /* not 1 */
+    FENSTUBBLE_WRONG_MODE = 22,    /* neither 0 nor 1 */
+    FENSTUBBLE_WRONG_COUNT = 23,   /* over 64 users, 256 folders, users + folders inner vertices, users + 448 outer ones, or 4096 tokens of a layer */
+    FENSTUBBLE_WRONG_LENGTH = 24,  /* not that of header and rows */
+    FENSTUBBLE_BROKEN_S1 = 31,     /* a row has a kind above 1, a vertex that is not there, or a user who has not joined */
+    FENSTUBBLE_BROKEN_S2 = 32,     /* a user has no own vertex; or a token that is not of kind 1 leads to one; or an inner vertex has the empty set */
+    FENSTUBBLE_BROKEN_S3 = 33,     /* a vertex has the set of an earlier one of its layer */
+    FENSTUBBLE_BROKEN_S4 = 34,     /* a token that is not of kind 1 starts at the empty set, or at one that is no proper part of that it leads to */
+    FENSTUBBLE_BROKEN_S5 = 35,     /* the set of a group is not made of the sets from which tokens lead to it, those of kind 1 apart */
+    FENSTUBBLE_BROKEN_S6 = 36,     /* a token of kind 1 starts at no user's own vertex, or leads to a set with that user; or a token is there twice */
+    FENSTUBBLE_BROKEN_S7 = 37,     /* a folder's list names a user who does not derive its inner key */
+    FENSTUBBLE_BROKEN_S8 = 38      /* a folder's outer lock is not what its mode and its list ask for */
 };
 
 /* a result taken apart: the refusal's number or 0, and the view, which is 0 but for 11 */
 #define FENSTUBBLE_NUMBER(result) ((result) % 256)
 #define FENSTUBBLE_VIEW(result) ((result) / 256)
 
-/* A result in words; "no such refusal" where there is none of that number. It stands here and not in the library, where every function is proved. */
+/* The two functions that follow stand here and not in the library, where every function is proved. */
+
+/* A result in words; "no such refusal" where there is none of that number. */
 static inline const char *fenstubble_reason(uint16_t result) {
-    static const char *const reasons[] = {
-        "done",
-        "there is no such user, folder or section, or the list names a user who has not joined",
-        "64 users have joined, and a book has no room for more",
-        "256 folders are there, and a book has no room for more",
-        "the list is empty: a folder is inserted for at least one user",
-        "the user may read the folder already",
-        "the user may not read the folder anyway",
-        "it takes more than 448 outer groups: use lists that are there already, or begin another book",
-        "it takes more than 4096 inner tokens: use lists that are there already, or begin another book",
-        "it takes more than 4096 outer tokens: use lists that are there already, or begin another book",
-        "the list or buffer lent for the answer is too short: lend a longer one",
-        "the folder is closed to this user",
-        "this is not a sound book: go back to the last one that was kept",
-        "a head, table or set that was lent is too short",
-        "the line is not a request: see fenstubble --help",
-    };
-    size_t number = FENSTUBBLE_NUMBER(result);
-    return number < sizeof reasons / sizeof *reasons ? reasons[number] : "no such refusal";
+    switch (FENSTUBBLE_NUMBER(result)) {
+    case FENSTUBBLE_DONE: return "done";
+    case FENSTUBBLE_NO_SUCH: return "there is no such user, folder or section, or the list names a user who has not joined";
+    case FENSTUBBLE_USERS_FULL: return "64 users have joined, and a book has no room for more";
+    case FENSTUBBLE_RESOURCES_FULL: return "256 folders are there, and a book has no room for more";
+    case FENSTUBBLE_EMPTY_LIST: return "the list is empty: a folder is inserted for at least one user";
+    case FENSTUBBLE_LISTED: return "the user may read the folder already";
+    case FENSTUBBLE_NOT_LISTED: return "the user may not read the folder anyway";
+    case FENSTUBBLE_GROUPS_FULL: return "it takes more than 448 outer groups: use lists that are there already, or begin another book";
+    case FENSTUBBLE_INNER_TOKENS_FULL: return "it takes more than 4096 inner tokens: use lists that are there already, or begin another book";
+    case FENSTUBBLE_OUTER_TOKENS_FULL: return "it takes more than 4096 outer tokens: use lists that are there already, or begin another book";
+    case FENSTUBBLE_SHORT_ANSWER: return "the list or buffer lent for the answer is too short: lend a longer one";
+    case FENSTUBBLE_CLOSED: return "the folder is closed to this user";
+    case FENSTUBBLE_UNSOUND: return "the tables hold no sound book: go back to the last one that was kept";
+    case FENSTUBBLE_SHORT_TABLE: return "a head, table or set that was lent is too short";
+    case FENSTUBBLE_MALFORMED: return "the line is not a request: see fenstubble --help";
+    case FENSTUBBLE_WRONG_MARK: return "the bytes do not begin with the mark of a book, TKB";
+    case FENSTUBBLE_WRONG_VERSION: return "the book's version is not 1";
+    case FENSTUBBLE_WRONG_MODE: return "the book's mode is neither 0 nor 1";
+    case FENSTUBBLE_WRONG_COUNT: return "a count in the book's header is over its limit";
+    case FENSTUBBLE_WRONG_LENGTH: return "the length is not that of the book's header and rows";
+    case FENSTUBBLE_BROKEN_S1: return "S1 is broken: the row has a kind above 1, a vertex that is not there, or a user who has not joined";
+    case FENSTUBBLE_BROKEN_S2: return "S2 is broken: a user has no own vertex, a token leads to one, or an inner vertex has the empty set";
+    case FENSTUBBLE_BROKEN_S3: return "S3 is broken: an earlier vertex of the layer has the same set";
+    case FENSTUBBLE_BROKEN_S4: return "S4 is broken: the set where the token starts is empty, or no proper part of the set that it leads to";
+    case FENSTUBBLE_BROKEN_S5: return "S5 is broken: the group's set is not made of the sets from which tokens lead to it";
+    case FENSTUBBLE_BROKEN_S6: return "S6 is broken: the access token starts at no user's own vertex, or leads to a set with that user, or the token is there twice";
+    case FENSTUBBLE_BROKEN_S7: return "S7 is broken: the folder's list names a user who does not derive its inner key";
+    case FENSTUBBLE_BROKEN_S8: return "S8 is broken: the folder's outer lock is not what its mode and its list ask for";
+    default: return "no such refusal";
+    }
+}
+
+/* a row of a book's bytes: its section (enum fenstubble_section_number), and its number there */
+struct fenstubble_row {
+    size_t section, number;
+};
+
+/* The row at a place of a book's bytes, such as 31 to 38 tell, by the counts in their header: FENSTUBBLE_BOOK_HEADER bytes are looked at. Where no row is
+ * there, as at FENSTUBBLE_NO_ROW, the section is FENSTUBBLE_SECTIONS. */
+static inline struct fenstubble_row fenstubble_row_at(const uint8_t *book, size_t place) {
+    static const uint8_t counts[] = {9, 11, 13, 15, 7}; /* where the header has them */
+    static const uint8_t widths[] = {FENSTUBBLE_INNER_VERTICES_WIDTH, FENSTUBBLE_INNER_TOKENS_WIDTH, FENSTUBBLE_OUTER_VERTICES_WIDTH,
+                                     FENSTUBBLE_OUTER_TOKENS_WIDTH, FENSTUBBLE_RESOURCES_WIDTH};
+    struct fenstubble_row row = {0, 0};
+    size_t start = FENSTUBBLE_BOOK_HEADER;
+    for (; row.section < FENSTUBBLE_SECTIONS; row.section++) {
+        size_t count = book[counts[row.section]] + 256u * book[counts[row.section] + 1], end = start + count * widths[row.section];
+        if (start <= place && place < end) {
+            row.number = (place - start) / widths[row.section];
+            break;
+        }
+        start = end;
+    }
+    return row;
 }
 
 /* ---- the calls. Behind each stand the refusals that it can give, in the order in which they are judged: the first that holds is given. */
@@ -266,14 +335,17 @@ uint32_t fenstubble_version(void);
  * 13, 12 */
 uint16_t fenstubble_check(const uint16_t *head, size_t head_len, FENSTUBBLE_CONST_TABLES);
 
+/* The two calls on a book's bytes. *place is written by each of them, accepted or refused: along with 20 to 24 and 31 to 38 it says where the bytes are
+ * broken (see above), and along with any other result it is 0. */
+
 /* Section k of a book's bytes (enum fenstubble_section_number) is the stretch of *length bytes from book + *start on; one without rows starts where
  * the one before it ends.
- * 12, 1 */
-uint16_t fenstubble_section(const uint8_t *book, size_t book_len, size_t k, size_t *start, size_t *length);
+ * 20 to 24, 31 to 38, then 1 */
+uint16_t fenstubble_section(const uint8_t *book, size_t book_len, size_t k, size_t *start, size_t *length, size_t *place);
 
 /* A book's bytes into head and tables; what these held before does not count.
- * 13, 12 (of the bytes) */
-uint16_t fenstubble_read(const uint8_t *book, size_t book_len, uint16_t *head, size_t head_len, FENSTUBBLE_TABLES);
+ * 13, then 20 to 24, 31 to 38 */
+uint16_t fenstubble_read(const uint8_t *book, size_t book_len, uint16_t *head, size_t head_len, FENSTUBBLE_TABLES, size_t *place);
 
 /* The book as bytes into the buffer; *length is how many. With FENSTUBBLE_BOOK_BYTES the buffer is never too short.
  * 13, 12, 10 */

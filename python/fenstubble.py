@@ -8,8 +8,16 @@
     >>> book.open(child, notes)  # the token rows by which the child opens the notes
     Chains(inner=[1], outer=[])
 
-A request that is refused raises Refused and leaves the book as it was. The module lends what the calls need, so 10 and 13 never come. The library is the file that
-FENSTUBBLE_LIBRARY names, or lib/libfenstubble.so.1 of the prefix that this file is installed in, or what the system's loader finds. One thread at a time on one book.
+A request that is refused raises Refused and leaves the book as it was. Bytes that are no sound book are refused with the place where they are broken:
+
+    >>> data = bytearray(book.to_bytes())
+    >>> data[-1] = data[-2] = 0
+    >>> Book.from_bytes(data)
+    Traceback (most recent call last):
+    fenstubble.Refused: 38 (byte 67, folder row 0): S8 is broken: the folder's outer lock is not what its mode and its list ask for
+
+The module lends what the calls need, so 10 and 13 never come. The library is the file that FENSTUBBLE_LIBRARY names, or lib/libfenstubble.so.2 of the prefix that
+this file is installed in, or what the system's loader finds. One thread at a time on one book.
 """
 from __future__ import annotations
 
@@ -22,7 +30,7 @@ from itertools import count, islice
 from pathlib import Path
 from typing import Callable, Iterable, Iterator, NamedTuple, Optional, Sequence, Union
 
-VERSION = 10000  # that this module is written for: major * 10000 + minor * 100 + patch
+VERSION = 20000  # that this module is written for: major * 10000 + minor * 100 + patch
 USERS, RESOURCES, INNER_TOKENS, OUTER_TOKENS, OUTER_GROUPS = 64, 256, 4096, 4096, 448  # the limits; a resource is a folder
 SET_BYTES = 8  # a set of users: bit i % 8 of byte i // 8 is user i
 WIDTHS = (SET_BYTES, 5, SET_BYTES, 4, SET_BYTES + 4)  # bytes of a row: inner vertices, inner tokens, outer vertices, outer tokens, folders
@@ -31,8 +39,10 @@ HEAD_LEN = 7  # mode, users, folders, inner vertices, inner tokens, outer vertic
 ORDER_WIDTH, ORDER_ROWS = 3, 385  # numbers of an order row; rows that no request exceeds
 CHAIN_ROWS = 63  # tokens that no chain exceeds, in either layer
 OPEN_ROWS = 2 * CHAIN_ROWS  # rows that no open exceeds, both chains together
-BOOK_BYTES = 46609  # of the largest book
+BOOK_HEADER, BOOK_BYTES = 17, 46609  # bytes before the rows, and of the largest book
+COUNTS = (9, 11, 13, 15, 7)  # where the header counts the rows: of inner vertices and so on, as in WIDTHS
 NO_OUTER = 65535  # in the place of an outer vertex: none
+NO_ROW = 65535  # a place along with 32: a vertex is missing, so that no row is there to be told
 NOBODY = 65535  # as a user, folder or section: one that never exists
 
 
@@ -68,6 +78,16 @@ class Ask(IntEnum):
     GRANT = 2  # folder, user
     REVOKE = 3  # folder, user
     OPEN = 4  # user, folder
+
+
+class Section(IntEnum):
+    """A section of a book's bytes."""
+
+    INNER_VERTICES = 0
+    INNER_TOKENS = 1
+    OUTER_VERTICES = 2
+    OUTER_TOKENS = 3
+    RESOURCES = 4  # folders
 
 
 class Request(NamedTuple):
@@ -109,45 +129,87 @@ class Folder(NamedTuple):
     outer: Optional[int]
 
 
-REASONS = (  # word for word those of fenstubble_reason in fenstubble.h
-    "done",
-    "there is no such user, folder or section, or the list names a user who has not joined",
-    "64 users have joined, and a book has no room for more",
-    "256 folders are there, and a book has no room for more",
-    "the list is empty: a folder is inserted for at least one user",
-    "the user may read the folder already",
-    "the user may not read the folder anyway",
-    "it takes more than 448 outer groups: use lists that are there already, or begin another book",
-    "it takes more than 4096 inner tokens: use lists that are there already, or begin another book",
-    "it takes more than 4096 outer tokens: use lists that are there already, or begin another book",
-    "the list or buffer lent for the answer is too short: lend a longer one",
-    "the folder is closed to this user",
-    "this is not a sound book: go back to the last one that was kept",
-    "a head, table or set that was lent is too short",
-    "the line is not a request: see fenstubble --help",
-)
+class Row(NamedTuple):
+    """A row of a book's bytes."""
+
+    section: Section
+    number: int
+
+    def __str__(self) -> str:
+        return f"{('inner vertex', 'inner token', 'outer vertex', 'outer token', 'folder')[self.section]} row {self.number}"
+
+
+REASONS = {  # word for word those of fenstubble_reason in fenstubble.h
+    0: "done",
+    1: "there is no such user, folder or section, or the list names a user who has not joined",
+    2: "64 users have joined, and a book has no room for more",
+    3: "256 folders are there, and a book has no room for more",
+    4: "the list is empty: a folder is inserted for at least one user",
+    5: "the user may read the folder already",
+    6: "the user may not read the folder anyway",
+    7: "it takes more than 448 outer groups: use lists that are there already, or begin another book",
+    8: "it takes more than 4096 inner tokens: use lists that are there already, or begin another book",
+    9: "it takes more than 4096 outer tokens: use lists that are there already, or begin another book",
+    10: "the list or buffer lent for the answer is too short: lend a longer one",
+    11: "the folder is closed to this user",
+    12: "the tables hold no sound book: go back to the last one that was kept",
+    13: "a head, table or set that was lent is too short",
+    14: "the line is not a request: see fenstubble --help",
+    20: "the bytes do not begin with the mark of a book, TKB",
+    21: "the book's version is not 1",
+    22: "the book's mode is neither 0 nor 1",
+    23: "a count in the book's header is over its limit",
+    24: "the length is not that of the book's header and rows",
+    31: "S1 is broken: the row has a kind above 1, a vertex that is not there, or a user who has not joined",
+    32: "S2 is broken: a user has no own vertex, a token leads to one, or an inner vertex has the empty set",
+    33: "S3 is broken: an earlier vertex of the layer has the same set",
+    34: "S4 is broken: the set where the token starts is empty, or no proper part of the set that it leads to",
+    35: "S5 is broken: the group's set is not made of the sets from which tokens lead to it",
+    36: "S6 is broken: the access token starts at no user's own vertex, or leads to a set with that user, or the token is there twice",
+    37: "S7 is broken: the folder's list names a user who does not derive its inner key",
+    38: "S8 is broken: the folder's outer lock is not what its mode and its list ask for",
+}
 
 
 def reason(result: int) -> str:
     """A call's result in words; 11 may come with its view, as 11 + 256 * view."""
-    number = result % 256
-    return REASONS[number] if number < len(REASONS) else "no such refusal"
+    return REASONS.get(result % 256, "no such refusal")
 
 
 class Refused(Exception):
-    """A call said no: its number, the view where it is 11, and the place of the fault where one is told."""
+    """A call said no: its number; with 11 the view; with 20 to 24 and 31 to 38, of a book's bytes, the place, and with 31 to 38 the row that starts there. The place
+    is a byte, with 24 the length, with 32 and NO_ROW a vertex that is missing."""
 
-    def __init__(self, number: int, view: Optional[View] = None, place: Optional[int] = None) -> None:
-        super().__init__(number, view, place)
-        self.number, self.view, self.place, self.reason = number, view, place, reason(number)
+    def __init__(self, number: int, view: Optional[View] = None, place: Optional[int] = None, row: Optional[Row] = None) -> None:
+        super().__init__(number, view, place, row)
+        self.number, self.view, self.place, self.row, self.reason = number, view, place, row, reason(number)
 
     @staticmethod
     def of(result: int) -> Refused:
         number, view = result % 256, result // 256
         return Refused(number, View(view) if number == 11 else None)
 
+    @staticmethod
+    def of_bytes(number: int, place: int, data: bytes) -> Refused:
+        """Of a call on a book's bytes."""
+        broken = number in range(31, 39)
+        placed = broken or number in range(20, 25)
+        return Refused(number, None, place if placed else None, row_at(data, place) if broken else None)
+
     def __str__(self) -> str:
-        return f"{self.number}: {self.reason}" if self.view is None else f"{self.number} (view {self.view.value}): {self.reason}"
+        where = self._where()
+        return f"{self.number} ({where}): {self.reason}" if where else f"{self.number}: {self.reason}"
+
+    def _where(self) -> str:
+        if self.view is not None:
+            return f"view {self.view.value}"
+        if self.place is None:
+            return ""
+        if self.number == 24:
+            return f"{self.place} bytes"
+        if self.number == 32 and self.place == NO_ROW:
+            return f"{NO_ROW}, a missing vertex"
+        return f"byte {self.place}" + (f", {self.row}" if self.row is not None else "")
 
 
 Reply = Union[Answer, Chains, Refused]
@@ -155,8 +217,8 @@ Reply = Union[Answer, Chains, Refused]
 
 def _load() -> ctypes.CDLL:
     named = os.environ.get("FENSTUBBLE_LIBRARY")
-    installed = Path(__file__).resolve().parent.parent.parent / "lib" / "libfenstubble.so.1"
-    path = named or (str(installed) if installed.exists() else "libfenstubble.so.1")
+    installed = Path(__file__).resolve().parent.parent.parent / "lib" / "libfenstubble.so.2"
+    path = named or (str(installed) if installed.exists() else "libfenstubble.so.2")
     try:
         library = ctypes.CDLL(path)
     except OSError as error:
@@ -182,8 +244,8 @@ def _declare(name: str, *types: type) -> Callable[..., int]:
 
 
 _check = _declare("check", *_BOOK)
-_section = _declare("section", _BYTES, _LENGTH, _LENGTH, _SIZE, _SIZE)
-_read = _declare("read", _BYTES, _LENGTH, *_BOOK)
+_section = _declare("section", _BYTES, _LENGTH, _LENGTH, _SIZE, _SIZE, _SIZE)
+_read = _declare("read", _BYTES, _LENGTH, *_BOOK, _SIZE)
 _write = _declare("write", *_BOOK, _BYTES, _LENGTH, _SIZE)
 _join = _declare("join", *_BOOK, *_ORDERS)
 _insert = _declare("insert", *_BOOK, *_ORDERS, _BYTES, _LENGTH)
@@ -197,6 +259,11 @@ _serve = _declare("serve", *_BOOK, ctypes.POINTER(ctypes.c_uint64), _LENGTH, _NU
 def _take(result: int) -> None:
     if result != 0:
         raise Refused.of(result)
+
+
+def _take_bytes(result: int, place: ctypes.c_size_t, data: bytes) -> None:
+    if result != 0:
+        raise Refused.of_bytes(result, place.value, data)
 
 
 def _bytes(data: bytes) -> ctypes.Array:
@@ -238,9 +305,20 @@ def version() -> int:
 
 def section(data: bytes, k: int) -> memoryview:
     """Section k (0 to 4) of a book's bytes: the stretch of `data` itself."""
-    start, length = ctypes.c_size_t(), ctypes.c_size_t()
-    _take(_section(_bytes(data), len(data), _number(k), start, length))
+    start, length, place = ctypes.c_size_t(), ctypes.c_size_t(), ctypes.c_size_t()
+    _take_bytes(_section(_bytes(data), len(data), _number(k), start, length, place), place, data)
     return memoryview(data)[start.value : start.value + length.value]
+
+
+def row_at(data: bytes, place: int) -> Optional[Row]:
+    """The row of a book's bytes that is at this place, by the counts in their header; None where there is none."""
+    start = BOOK_HEADER
+    for k in Section:
+        end = start + WIDTHS[k] * int.from_bytes(data[COUNTS[k] : COUNTS[k] + 2], "little")
+        if start <= place < end:
+            return Row(k, (place - start) // WIDTHS[k])
+        start = end
+    return None
 
 
 class Book:
@@ -252,8 +330,8 @@ class Book:
 
     @classmethod
     def from_bytes(cls, data: bytes) -> Book:
-        book = cls(Mode.FULL)
-        _take(_read(_bytes(data), len(data), *book._lent()))
+        book, place = cls(Mode.FULL), ctypes.c_size_t()
+        _take_bytes(_read(_bytes(data), len(data), *book._lent(), place), place, data)
         return book
 
     def to_bytes(self) -> bytes:

@@ -1,4 +1,4 @@
-"""Tests of fenstubble.py, against the library and against include/fenstubble.h:  FENSTUBBLE_LIBRARY=.../libfenstubble.so.1 python3 python/test_fenstubble.py"""
+"""Tests of fenstubble.py, against the library and against include/fenstubble.h:  FENSTUBBLE_LIBRARY=.../libfenstubble.so.2 python3 python/test_fenstubble.py"""
 from __future__ import annotations
 
 import doctest
@@ -8,10 +8,10 @@ import re
 import unittest
 from itertools import combinations
 from pathlib import Path
-from typing import Callable
+from typing import Callable, Optional
 
 import fenstubble
-from fenstubble import Answer, Ask, Book, Chains, Folder, Kind, Mode, Order, Refused, Request, Token, View, section
+from fenstubble import NO_ROW, Answer, Ask, Book, Chains, Folder, Kind, Mode, Order, Refused, Request, Row, Section, Token, View, row_at, section
 
 HEADER = (Path(__file__).resolve().parent.parent / "include" / "fenstubble.h").read_text()
 OUT_OF_RANGE = (-1, 64, 255, 256, 65535, 65536, 65536 + 1, 2**32, 2**64, 2**64 + 1, -(2**64))
@@ -36,14 +36,46 @@ def crowd(mode: Mode) -> Book:
     return book
 
 
+def pair() -> bytes:
+    """The book of RULES 9.9: two users, and a folder for both."""
+    book = Book(Mode.DELTA)
+    book.join(), book.join()
+    book.insert({0, 1})
+    return book.to_bytes()
+
+
+def place_of(data: bytes, row: Row) -> int:
+    """Where the row starts in the bytes of a sound book."""
+    return 17 + sum(len(section(data, k)) for k in range(row.section)) + row.number * fenstubble.WIDTHS[row.section]
+
+
+def changed(data: bytes, bytes_at: dict[int, int]) -> bytes:
+    """The data with other bytes at these places."""
+    other = bytearray(data)
+    for at, byte in bytes_at.items():
+        assert other[at] != byte
+        other[at] = byte
+    return bytes(other)
+
+
 class Case(unittest.TestCase):
-    def refused(self, number: int, call: Callable[[], object]) -> Refused:
+    def refused(self, number: int, call: Callable[[], object], place: Optional[int] = None, row: Optional[Row] = None) -> Refused:
         with self.assertRaises(Refused) as caught:
             call()
-        self.assertEqual(caught.exception.number, number)
+        self.assertEqual((caught.exception.number, caught.exception.place, caught.exception.row), (number, place, row))
         self.assertEqual(caught.exception.reason, fenstubble.REASONS[number])
-        self.assertIsNone(caught.exception.place)
         return caught.exception
+
+    def broken(self, number: int, data: bytes, place: int, row: Optional[Row] = None) -> Refused:
+        """Read and every section say so, also a section that there is not."""
+        for k in (0, 1, 2, 3, 4, 5, 65536):
+            self.refused(number, lambda: section(data, k), place, row)
+        return self.refused(number, lambda: Book.from_bytes(data), place, row)
+
+    def broken_row(self, number: int, data: bytes, at: int, byte: int, row: Row) -> None:
+        """The byte that is the `at`-th of this row is another one: the place is where the row starts."""
+        start = place_of(data, row)
+        self.broken(number, changed(data, {start + at: byte}), start, row)
 
 
 class Requests(Case):
@@ -193,19 +225,7 @@ class Refusals(Case):
             (book.revoke if user in book.lists[0] else book.grant)(0, user)
 
     def test_unsound(self) -> None:
-        good = family().to_bytes()
-        self.refused(12, lambda: Book.from_bytes(b""))
-        self.refused(12, lambda: Book.from_bytes(good[:-1]))
-        self.refused(12, lambda: Book.from_bytes(good + b"\0"))
-        self.refused(12, lambda: section(good[:-1], 0))
-        self.refused(12, lambda: section(b"", 65536))
-        for at in range(len(good)):
-            damaged = bytearray(good)
-            damaged[at] ^= 0x80
-            self.refused(12, lambda: Book.from_bytes(bytes(damaged)))
-
-    def test_unsound_tables(self) -> None:
-        """12 comes before 1, whatever the number is."""
+        """12 comes before 1, whatever the number is; no place is told of tables."""
         book = family()
         book._tables[0][0] ^= 1
         for call in (
@@ -226,7 +246,154 @@ class Refusals(Case):
         refused = self.refused(11, lambda: family().open(2, 1))
         self.assertEqual(str(refused), "11 (view 1): the folder is closed to this user")
         again = pickle.loads(pickle.dumps(refused))
-        self.assertEqual((again.number, again.view, again.reason), (11, View.OUTER_LOCKED, refused.reason))
+        self.assertEqual((again.number, again.view, again.place, again.row, again.reason), (11, View.OUTER_LOCKED, None, None, refused.reason))
+
+
+class Broken(Case):
+    """Bytes that are no sound book: number and place, RULES 9.10 to 9.12."""
+
+    def test_lengths(self) -> None:
+        good = family().to_bytes()
+        for length in range(len(good)):
+            self.broken(24, good[:length], length)
+        for more in (1, 1000, 46609, 65535 - len(good), 65536 - len(good), 70000 - len(good)):
+            self.broken(24, good + bytes(more), len(good) + more)
+        self.broken(24, b"\xff" * 16, 16)
+
+    def test_long_input(self) -> None:
+        """A length is told as it is: 65535 with 24 is one. What the header says comes first."""
+        for length in (65535, 65536, 70000):
+            self.broken(24, b"TKB\1\0\1" + bytes(length - 6), length)
+            self.broken(20, bytes(length), 0)
+            self.broken(23, b"TKB\1\0\1" + b"\xff" * (length - 6), 6)
+
+    def test_header(self) -> None:
+        good = pair()
+        for at in range(3):
+            self.broken(20, changed(good, {at: 0}), 0)
+        for at, byte in ((3, 0), (3, 2), (4, 1)):
+            self.broken(21, changed(good, {at: byte}), 3)
+        self.broken(22, changed(good, {5: 2}), 5)
+        self.broken(22, changed(good, {5: 255}), 5)
+        for over, place in (({6: 65}, 6), ({8: 1}, 7), ({9: 4}, 9), ({10: 1}, 9), ({12: 16}, 11), ({13: 195, 14: 1}, 13), ({15: 1, 16: 16}, 15)):
+            self.broken(23, changed(good, over), place)
+        self.broken(32, changed(good, {6: 64}), NO_ROW)
+        for most in ({7: 0, 8: 1}, {7: 2, 9: 4}, {11: 0, 12: 16}, {13: 194, 14: 1}, {16: 16}):
+            self.broken(24, changed(good, most), 79)
+
+    def test_order(self) -> None:
+        """What is judged first is told, whatever else is wrong."""
+        wrong = {0: 0, 3: 2, 5: 2, 6: 65, 16: 1, 50: 2}
+        for number, place, right in ((20, 0, 0), (21, 3, 3), (22, 5, 5), (23, 6, 6), (24, 79, 16), (31, 46, 50)):
+            self.broken(number, changed(pair(), wrong), place, Row(Section.INNER_TOKENS, 1) if number == 31 else None)
+            del wrong[right]
+
+    def test_examples(self) -> None:
+        """Those of RULES 9.12."""
+        good = pair()
+        self.assertEqual(len(good), 79)
+        self.broken(22, changed(good, {5: 2}), 5)
+        self.broken(23, changed(good, {7: 0}), 9)
+        self.broken(24, changed(good, {16: 1}), 79)
+        self.broken(31, changed(good, {50: 2}), 46, Row(Section.INNER_TOKENS, 1))
+        self.broken(35, changed(good, {50: 1}), 33, Row(Section.INNER_VERTICES, 2))
+        self.broken(31, changed(good, {52: 1}), 51, Row(Section.OUTER_VERTICES, 0))
+        self.broken(32, changed(good, {51: 2}), NO_ROW)
+        self.broken(31, changed(good, {77: 0}), 67, Row(Section.RESOURCES, 0))
+        self.broken(38, changed(good, {77: 0, 78: 0}), 67, Row(Section.RESOURCES, 0))
+
+    def test_each_rule(self) -> None:
+        """Users 0 to 2; inner and outer vertex 3 is {0, 1}, inner vertex 4 {0, 2}; folder 0 also granted to user 2."""
+        book = family()
+        book.insert({0, 2})
+        good = book.to_bytes()
+        for row, at, byte in (
+            (Row(Section.INNER_VERTICES, 4), 0, 13),  # user 3
+            (Row(Section.INNER_TOKENS, 0), 0, 5),
+            (Row(Section.INNER_TOKENS, 4), 2, 5),
+            (Row(Section.INNER_TOKENS, 2), 4, 2),
+            (Row(Section.OUTER_VERTICES, 1), 7, 1),
+            (Row(Section.OUTER_TOKENS, 1), 0, 4),
+            (Row(Section.OUTER_TOKENS, 0), 3, 255),
+            (Row(Section.RESOURCES, 2), 0, 15),
+            (Row(Section.RESOURCES, 1), 9, 1),
+            (Row(Section.RESOURCES, 1), 10, 4),
+        ):
+            self.broken_row(31, good, at, byte, row)
+        for row, at, byte in (
+            (Row(Section.INNER_VERTICES, 3), 0, 0),  # the empty set
+            (Row(Section.INNER_TOKENS, 1), 2, 0),  # into an own vertex
+            (Row(Section.OUTER_TOKENS, 1), 2, 2),
+        ):
+            self.broken_row(32, good, at, byte, row)
+        for vertex in (Row(Section.INNER_VERTICES, 0), Row(Section.OUTER_VERTICES, 2)):
+            self.broken(32, changed(good, {place_of(good, vertex): 3}), NO_ROW)
+        self.broken_row(33, good, 0, 3, Row(Section.INNER_VERTICES, 4))
+        self.broken_row(34, good, 0, 1, Row(Section.INNER_TOKENS, 4))
+        self.broken_row(34, good, 0, 2, Row(Section.OUTER_TOKENS, 1))
+        self.broken_row(35, good, 0, 7, Row(Section.OUTER_VERTICES, 3))
+        self.broken_row(36, good, 0, 0, Row(Section.INNER_TOKENS, 2))  # user 0 is in {0, 1}
+        self.broken_row(36, good, 0, 4, Row(Section.INNER_TOKENS, 2))  # from a group
+        self.broken_row(37, good, 0, 7, Row(Section.RESOURCES, 2))  # user 1 does not hold vertex 4
+        self.broken_row(38, good, 10, 0, Row(Section.RESOURCES, 1))  # locked with {0}
+
+    def test_twice(self) -> None:
+        """Of two equal token rows the later one is told."""
+        good = family().to_bytes()
+        token = place_of(good, Row(Section.OUTER_TOKENS, 1))
+        twice = changed(good[: token + 4] + good[token - 4 :], {15: 4})
+        self.broken(36, twice, token + 4, Row(Section.OUTER_TOKENS, 2))
+
+    def test_missing_first(self) -> None:
+        """A missing vertex comes before what else breaks S2, also where that stands in an earlier byte."""
+        good = pair()
+        self.broken(32, changed(good, {33: 0, 51: 2}), NO_ROW)
+
+    def test_every_bit(self) -> None:
+        """No bit changed here leaves a sound book: each has its place, in the bytes or NO_ROW, and its row where a rule is broken."""
+        good = family().to_bytes()
+        for at in range(len(good)):
+            data = changed(good, {at: good[at] ^ 0x80})
+            with self.assertRaises(Refused) as caught:
+                Book.from_bytes(data)
+            refused = caught.exception
+            self.assertIn(refused.number, {*range(20, 25), *range(31, 39)})
+            if refused.number < 31 or refused.place == NO_ROW:
+                self.assertIsNone(refused.row)
+            else:
+                self.assertEqual(refused.place, place_of(good, refused.row))
+            self.broken(refused.number, data, refused.place, refused.row)
+
+    def test_rows(self) -> None:
+        """Each byte of a book belongs to its row; the header and what is behind the rows to none."""
+        data = family().to_bytes()
+        rows = [Row(k, n) for k in Section for n in range(len(section(data, k)) // fenstubble.WIDTHS[k])]
+        self.assertEqual([row_at(data, at) for at in range(17)], [None] * 17)
+        self.assertEqual([row_at(data, at) for at in range(17, len(data))], [row for row in rows for _ in range(fenstubble.WIDTHS[row.section])])
+        self.assertEqual([row_at(data, at) for at in (len(data), NO_ROW, 2**64)], [None] * 3)
+
+    def test_other_refusals(self) -> None:
+        self.refused(1, lambda: section(pair(), 5))
+
+    def test_in_words(self) -> None:
+        good = pair()
+        told = {
+            "20 (byte 0): the bytes do not begin with the mark of a book, TKB": changed(good, {0: 0}),
+            "23 (byte 9): a count in the book's header is over its limit": changed(good, {7: 0}),
+            "24 (78 bytes): the length is not that of the book's header and rows": good[:78],
+            "32 (65535, a missing vertex): " + fenstubble.REASONS[32]: changed(good, {51: 2}),
+            "32 (byte 33, inner vertex row 2): " + fenstubble.REASONS[32]: changed(good, {33: 0}),
+            "31 (byte 46, inner token row 1): " + fenstubble.REASONS[31]: changed(good, {50: 2}),
+            "31 (byte 51, outer vertex row 0): " + fenstubble.REASONS[31]: changed(good, {52: 1}),
+            "38 (byte 67, folder row 0): " + fenstubble.REASONS[38]: changed(good, {77: 0, 78: 0}),
+        }
+        for words, data in told.items():
+            with self.assertRaises(Refused) as caught:
+                Book.from_bytes(data)
+            self.assertEqual(str(caught.exception), words)
+            again = pickle.loads(pickle.dumps(caught.exception))
+            self.assertEqual((str(again), again.args), (words, caught.exception.args))
+        self.assertEqual(str(Row(Section.OUTER_TOKENS, 5)), "outer token row 5")
 
 
 class Bytes(Case):
@@ -321,23 +488,29 @@ class Header(Case):
     """The module says what include/fenstubble.h says."""
 
     def test_reasons(self) -> None:
+        names = re.search(r"enum fenstubble_refusal \{(.*?)\n\};", HEADER, re.S).group(1)
+        numbers = {name: int(text) for name, text in re.findall(r"(FENSTUBBLE_\w+) = (\d+)", names)}
         body = re.search(r"fenstubble_reason\(uint16_t result\) \{(.*?)\n\}", HEADER, re.S).group(1)
-        texts = re.findall(r'"([^"]*)"', body)
-        self.assertEqual(tuple(texts), fenstubble.REASONS + ("no such refusal",))
+        texts = re.findall(r'case (\w+): return "([^"]*)";', body)
+        self.assertEqual([name for name, _ in texts], list(numbers))
+        self.assertEqual({numbers[name]: text for name, text in texts}, fenstubble.REASONS)
+        self.assertEqual(re.findall(r'default: return "([^"]*)";', body), ["no such refusal"])
         self.assertEqual(fenstubble.reason(11 + 256 * 3), fenstubble.REASONS[11])
-        self.assertEqual(fenstubble.reason(15), "no such refusal")
+        for number in (15, 19, 25, 30, 39, 255):
+            self.assertEqual(fenstubble.reason(number), "no such refusal")
 
     def test_constants(self) -> None:
         numbers = {name: int(text) for name, text in re.findall(r"#define FENSTUBBLE_(\w+) (\d+)", HEADER)}
         for name in ("VERSION", "USERS", "RESOURCES", "INNER_TOKENS", "OUTER_TOKENS", "OUTER_GROUPS", "SET_BYTES", "HEAD_LEN", "ORDER_WIDTH", "ORDER_ROWS", "CHAIN_ROWS"):
             self.assertEqual(getattr(fenstubble, name), numbers[name], name)
-        self.assertEqual((fenstubble.BOOK_BYTES, fenstubble.NO_OUTER), (numbers["BOOK_BYTES"], numbers["NO_OUTER"]))
+        self.assertEqual((fenstubble.BOOK_HEADER, fenstubble.BOOK_BYTES), (numbers["BOOK_HEADER"], numbers["BOOK_BYTES"]))
+        self.assertEqual((fenstubble.NO_OUTER, fenstubble.NO_ROW, len(Section)), (numbers["NO_OUTER"], numbers["NO_ROW"], numbers["SECTIONS"]))
         self.assertEqual(fenstubble.version(), fenstubble.VERSION)
         self.assertEqual(fenstubble.BOOK_BYTES, 17 + sum(rows * width for rows, width in zip(fenstubble.ROWS, fenstubble.WIDTHS)))
 
     def test_enums(self) -> None:
         pairs = dict(re.findall(r"FENSTUBBLE_(\w+) = (\d+)", HEADER))
-        for prefix, numbers in (("MODE_", Mode), ("VIEW_", View), ("ORDER_", Kind), ("REQUEST_", Ask)):
+        for prefix, numbers in (("MODE_", Mode), ("VIEW_", View), ("ORDER_", Kind), ("REQUEST_", Ask), ("SECTION_", Section)):
             self.assertEqual({prefix + one.name: one.value for one in numbers}, {name: int(text) for name, text in pairs.items() if name.startswith(prefix)})
 
 

@@ -29,10 +29,10 @@ _Static_assert(FENSTUBBLE_HEAD_INNER_VERTICES == 3 && FENSTUBBLE_HEAD_INNER_TOKE
 _Static_assert(FENSTUBBLE_HEAD_OUTER_VERTICES == 5 && FENSTUBBLE_HEAD_OUTER_TOKENS == 6, "the head's outer layer");
 _Static_assert(FENSTUBBLE_SECTION_INNER_VERTICES == 0 && FENSTUBBLE_SECTION_INNER_TOKENS == 1, "the inner sections");
 _Static_assert(FENSTUBBLE_SECTION_OUTER_VERTICES == 2 && FENSTUBBLE_SECTION_OUTER_TOKENS == 3, "the outer sections");
-_Static_assert(FENSTUBBLE_SECTION_RESOURCES == 4, "the last section");
+_Static_assert(FENSTUBBLE_SECTION_RESOURCES == 4 && FENSTUBBLE_SECTIONS == 5, "the last section");
 _Static_assert(FENSTUBBLE_ORDER_WIDTH == 3 && FENSTUBBLE_REQUEST_WIDTH == 3 && FENSTUBBLE_ANSWER_WIDTH == 3, "rows of three");
 _Static_assert(FENSTUBBLE_ORDER_ROWS == 385 && FENSTUBBLE_ORDERS_LEN == 1155 && FENSTUBBLE_CHAIN_ROWS == 63 && FENSTUBBLE_OPEN_ROWS == 126, "most rows");
-_Static_assert(FENSTUBBLE_NO_OUTER == 65535 && FENSTUBBLE_ROW_INNER == 'i' && FENSTUBBLE_ROW_OUTER == 'o', "marks");
+_Static_assert(FENSTUBBLE_NO_OUTER == 65535 && FENSTUBBLE_NO_ROW == 65535 && FENSTUBBLE_ROW_INNER == 'i' && FENSTUBBLE_ROW_OUTER == 'o', "marks");
 
 /* ---- a book to lend */
 
@@ -90,19 +90,22 @@ static void versions(void) {
     expect(fenstubble_version() == FENSTUBBLE_VERSION && strcmp(text, FENSTUBBLE_VERSION_TEXT) == 0);
 }
 
+static int is_told(unsigned number) {
+    return number <= FENSTUBBLE_MALFORMED || (number >= FENSTUBBLE_WRONG_MARK && number <= FENSTUBBLE_WRONG_LENGTH) ||
+           (number >= FENSTUBBLE_BROKEN_S1 && number <= FENSTUBBLE_BROKEN_S8);
+}
+
 /* A line for each refusal, no two alike; the view beside a number does not change it; any other number has none. */
 static void reasons(void) {
     for (unsigned result = 0; result <= 65535; result++) {
         const char *reason = fenstubble_reason((uint16_t)result);
-        if (result % 256 > FENSTUBBLE_MALFORMED)
-            expect(strcmp(reason, "no such refusal") == 0);
-        else
-            expect(reason == fenstubble_reason(result % 256) && reason[0] != 0 && strcmp(reason, "no such refusal") != 0);
+        expect(is_told(result % 256) == (strcmp(reason, "no such refusal") != 0));
+        expect(strcmp(reason, fenstubble_reason(result % 256)) == 0 && reason[0] != 0);
     }
     expect(strcmp(fenstubble_reason(FENSTUBBLE_DONE), "done") == 0);
-    for (uint16_t a = 0; a <= FENSTUBBLE_MALFORMED; a++)
+    for (uint16_t a = 0; a <= FENSTUBBLE_BROKEN_S8; a++)
         for (uint16_t b = 0; b < a; b++)
-            expect(strcmp(fenstubble_reason(a), fenstubble_reason(b)) != 0);
+            expect(!is_told(a) || strcmp(fenstubble_reason(a), fenstubble_reason(b)) != 0);
     expect(fenstubble_reason(FENSTUBBLE_CLOSED + 256 * FENSTUBBLE_VIEW_LOCKED) == fenstubble_reason(FENSTUBBLE_CLOSED));
 }
 
@@ -134,7 +137,7 @@ static void lengths(void) {
 /* NULL with length 0 for a list or bytes: room for nothing, or no book. */
 static void nulls(void) {
     uint16_t inner = 9, outer = 9;
-    size_t length = 9, start = 9, used = 9;
+    size_t length = 9, start = 9, used = 9, place = 9;
     story(FENSTUBBLE_MODE_DELTA);
     before = book;
     count = 9;
@@ -144,8 +147,9 @@ static void nulls(void) {
     expect(fenstubble_revoke(BOOK, NULL, 0, &count, 0, 1) == FENSTUBBLE_SHORT_ANSWER);
     expect(fenstubble_open(BOOK, 1, 0, NULL, 0, &inner, &outer) == FENSTUBBLE_SHORT_ANSWER);
     expect(fenstubble_write(BOOK, NULL, 0, &length) == FENSTUBBLE_SHORT_ANSWER);
-    expect(fenstubble_section(NULL, 0, 0, &start, &length) == FENSTUBBLE_UNSOUND);
-    expect(fenstubble_read(NULL, 0, BOOK) == FENSTUBBLE_UNSOUND);
+    expect(fenstubble_section(NULL, 0, 0, &start, &length, &place) == FENSTUBBLE_WRONG_LENGTH && place == 0);
+    place = 9;
+    expect(fenstubble_read(NULL, 0, BOOK, &place) == FENSTUBBLE_WRONG_LENGTH && place == 0);
     expect(memcmp(&before, &book, sizeof book) == 0 && count == 9 && inner == 9 && outer == 9 && length == 9 && start == 9);
     expect(fenstubble_serve(BOOK, NULL, 0, NULL, 0, NULL, 0, &used) == FENSTUBBLE_DONE && used == 0);
     expect(memcmp(&before, &book, sizeof book) == 0);
@@ -267,7 +271,7 @@ static void layout(void) {
     static const size_t widths[] = {FENSTUBBLE_INNER_VERTICES_WIDTH, FENSTUBBLE_INNER_TOKENS_WIDTH, FENSTUBBLE_OUTER_VERTICES_WIDTH,
                                     FENSTUBBLE_OUTER_TOKENS_WIDTH, FENSTUBBLE_RESOURCES_WIDTH};
     static const size_t counts[] = {9, 11, 13, 15, 7};
-    size_t length, start, size, next = FENSTUBBLE_BOOK_HEADER;
+    size_t length, start, size, place, next = FENSTUBBLE_BOOK_HEADER;
     story(FENSTUBBLE_MODE_DELTA);
     expect(fenstubble_revoke(BOOK, ORDERS, 0, 0) == FENSTUBBLE_DONE);
     expect(fenstubble_write(BOOK, bytes, sizeof bytes, &length) == FENSTUBBLE_DONE);
@@ -275,16 +279,115 @@ static void layout(void) {
     for (int place = FENSTUBBLE_HEAD_INNER_VERTICES; place <= FENSTUBBLE_HEAD_OUTER_TOKENS; place++)
         expect(at(bytes, 3 + 2 * (size_t)place) == book.head[place]);
     for (size_t k = 0; k < 5; k++) {
-        expect(fenstubble_section(bytes, length, k, &start, &size) == FENSTUBBLE_DONE && start == next);
+        place = 9;
+        expect(fenstubble_section(bytes, length, k, &start, &size, &place) == FENSTUBBLE_DONE && start == next && place == 0);
         expect(size == at(bytes, counts[k]) * widths[k] && memcmp(bytes + start, book.table[k], size) == 0);
         next = start + size;
     }
-    expect(next == length && fenstubble_section(bytes, length, 5, &start, &size) == FENSTUBBLE_NO_SUCH);
+    place = 9;
+    expect(next == length && fenstubble_section(bytes, length, 5, &start, &size, &place) == FENSTUBBLE_NO_SUCH && place == 0);
     /* user 1's own inner vertex; the inner token from user 1; the folder's list, inner and outer vertex */
     expect(book.table[0][8] == 1 << 1 && at(book.table[1], 5) == 1 && at(book.table[1], 7) == 3 && book.table[1][9] == FENSTUBBLE_TOKEN_DERIVATION);
     expect(book.table[4][0] == 1 << 1 && at(book.table[4], 8) == 3 && at(book.table[4], 10) == 1);
     expect(fenstubble_grant(BOOK, ORDERS, 0, 0) == FENSTUBBLE_DONE && count == 1 && orders[2] == FENSTUBBLE_NO_OUTER);
     expect(at(book.table[4], 10) == FENSTUBBLE_NO_OUTER);
+}
+
+/* ---- bytes that are no sound book */
+
+/* Two users, and a folder for both: the rows start at 17, 25, 33; 41, 46; 51, 59; 67. */
+static const uint8_t pair[] = {84, 75, 66, 1, 0, 1, 2, 1, 0, 3, 0, 2, 0, 2, 0, 0, 0, 1, 0, 0, 0, 0, 0, 0, 0, 2, 0,
+                               0,  0,  0,  0, 0, 0, 3, 0, 0, 0, 0, 0, 0, 0, 0, 0, 2, 0, 0, 1, 0, 2, 0, 0, 1, 0, 0,
+                               0,  0,  0,  0, 0, 2, 0, 0, 0, 0, 0, 0, 0, 3, 0, 0, 0, 0, 0, 0, 0, 2, 0, 255, 255};
+
+/* The bytes are refused so by read and by every section; nothing but the place is written. */
+static void broken_at(const uint8_t *bytes, size_t length, uint16_t number, size_t place, int line) {
+    size_t told = 9, start = 9, size = 9;
+    before = book;
+    expect_at(fenstubble_read(bytes, length, BOOK, &told) == number && told == place, line);
+    expect_at(memcmp(&before, &book, sizeof book) == 0, line);
+    for (size_t k = 0; k <= FENSTUBBLE_SECTIONS; k++) {
+        told = 9;
+        expect_at(fenstubble_section(bytes, length, k, &start, &size, &told) == number && told == place && start == 9 && size == 9, line);
+    }
+}
+#define broken(bytes, length, number, place) broken_at(bytes, length, number, place, __LINE__)
+
+/* The book `pair` with one byte, or two, changed. */
+static void changed_at(size_t at, uint8_t byte, size_t other_at, uint8_t other, uint16_t number, size_t place, int line) {
+    uint8_t bytes[sizeof pair];
+    memcpy(bytes, pair, sizeof pair);
+    bytes[at] = byte;
+    bytes[other_at] = other;
+    broken_at(bytes, sizeof bytes, number, place, line);
+}
+#define changed(at, byte, other_at, other, number, place) changed_at(at, byte, other_at, other, number, place, __LINE__)
+
+static void places(void) {
+    static uint8_t large[70000] = {84, 75, 66, 1, 0, 1};
+    size_t place = 9;
+    story(FENSTUBBLE_MODE_DELTA);
+    expect(fenstubble_read(pair, sizeof pair, BOOK, &place) == FENSTUBBLE_DONE && place == 0);
+    book.length[3]--;
+    place = 9;
+    expect(fenstubble_read(pair, 0, BOOK, &place) == FENSTUBBLE_SHORT_TABLE && place == 0);
+    book.length[3]++;
+
+    for (size_t length = 0; length < sizeof pair; length++)
+        broken(pair, length, FENSTUBBLE_WRONG_LENGTH, length);
+    broken(large, 65535, FENSTUBBLE_WRONG_LENGTH, 65535);
+    broken(large, sizeof large, FENSTUBBLE_WRONG_LENGTH, sizeof large);
+
+    changed(0, 85, 5, 2, FENSTUBBLE_WRONG_MARK, 0);
+    changed(4, 1, 5, 2, FENSTUBBLE_WRONG_VERSION, 3);
+    changed(5, 2, 6, 65, FENSTUBBLE_WRONG_MODE, 5);
+    changed(6, 65, 16, 1, FENSTUBBLE_WRONG_COUNT, 6);
+    changed(8, 1, 16, 1, FENSTUBBLE_WRONG_COUNT, 7);
+    changed(7, 0, 16, 1, FENSTUBBLE_WRONG_COUNT, 9);
+    changed(12, 16, 14, 2, FENSTUBBLE_WRONG_COUNT, 11);
+    changed(14, 2, 50, 2, FENSTUBBLE_WRONG_COUNT, 13);
+    changed(15, 1, 16, 16, FENSTUBBLE_WRONG_COUNT, 15);
+    changed(16, 1, 50, 2, FENSTUBBLE_WRONG_LENGTH, sizeof pair);
+
+    changed(50, 2, 52, 1, FENSTUBBLE_BROKEN_S1, 46);
+    changed(52, 1, 52, 1, FENSTUBBLE_BROKEN_S1, 51);
+    changed(77, 0, 77, 0, FENSTUBBLE_BROKEN_S1, 67);
+    changed(33, 0, 51, 2, FENSTUBBLE_BROKEN_S2, FENSTUBBLE_NO_ROW);
+    changed(33, 0, 33, 0, FENSTUBBLE_BROKEN_S2, 33);
+    changed(43, 1, 43, 1, FENSTUBBLE_BROKEN_S2, 41);
+    changed(46, 2, 46, 2, FENSTUBBLE_BROKEN_S4, 46);
+    changed(50, 1, 50, 1, FENSTUBBLE_BROKEN_S5, 33);
+    changed(75, 0, 75, 0, FENSTUBBLE_BROKEN_S7, 67);
+    changed(77, 0, 78, 0, FENSTUBBLE_BROKEN_S8, 67);
+}
+
+/* Those of S3 and S6 take more rows: users 0 to 2, group 3 of users 0 and 1, group 4 of users 0 and 2; folder 0 is granted to user 2. */
+static void more_places(void) {
+    static const uint8_t set[FENSTUBBLE_SET_BYTES] = {5};
+    static uint8_t bytes[FENSTUBBLE_BOOK_BYTES];
+    size_t length;
+    story(FENSTUBBLE_MODE_DELTA);
+    expect(fenstubble_insert(BOOK, ORDERS, set, sizeof set) == FENSTUBBLE_DONE && fenstubble_grant(BOOK, ORDERS, 0, 2) == FENSTUBBLE_DONE);
+    expect(fenstubble_write(BOOK, bytes, sizeof bytes, &length) == FENSTUBBLE_DONE);
+    bytes[17 + 4 * 8] = 3;
+    broken(bytes, length, FENSTUBBLE_BROKEN_S3, 17 + 4 * 8);
+    bytes[17 + 4 * 8] = 5;
+    bytes[17 + 5 * 8 + 4 * 5] = 0;
+    broken(bytes, length, FENSTUBBLE_BROKEN_S6, 17 + 5 * 8 + 4 * 5);
+}
+
+/* Each byte of a book is one of its row; the header, and what is behind the rows, of none. */
+static void rows(void) {
+    static const size_t starts[] = {17, 41, 51, 67, 67, 79}, widths[] = {8, 5, 8, 4, 12};
+    for (size_t k = 0; k < FENSTUBBLE_SECTIONS; k++)
+        for (size_t at = starts[k]; at < starts[k + 1]; at++) {
+            struct fenstubble_row row = fenstubble_row_at(pair, at);
+            expect(row.section == k && row.number == (at - starts[k]) / widths[k]);
+        }
+    for (size_t at = 0; at < 17; at++)
+        expect(fenstubble_row_at(pair, at).section == FENSTUBBLE_SECTIONS);
+    expect(fenstubble_row_at(pair, sizeof pair).section == FENSTUBBLE_SECTIONS);
+    expect(fenstubble_row_at(pair, FENSTUBBLE_NO_ROW).section == FENSTUBBLE_SECTIONS);
 }
 
 /* The kinds of requests that are served together, and their answers. */
@@ -335,13 +438,14 @@ static ucontext_t here, there;
 static size_t needed; /* by the call at hand */
 
 /* A call, and how far below the place where it was made its stack was used. */
-#define CALL(call)                                                                                                                                   \
+#define CALL(call) CALL_FOR(FENSTUBBLE_DONE, call)
+#define CALL_FOR(result, call)                                                                                                                       \
     do {                                                                                                                                             \
         const uint8_t *top, *low = stack;                                                                                                            \
         __asm__ volatile("mov %%rsp, %0" : "=r"(top));                                                                                               \
         for (uint8_t *p = stack; p < top - 256; p++)                                                                                                 \
             *p = 0xC7;                                                                                                                               \
-        expect((call) == FENSTUBBLE_DONE);                                                                                                           \
+        expect((call) == (result));                                                                                                                  \
         while (*low == 0xC7)                                                                                                                         \
             low++;                                                                                                                                   \
         needed = (size_t)(top - low);                                                                                                                \
@@ -353,11 +457,14 @@ static void every_call(void) {
     static const uint64_t requests[] = {FENSTUBBLE_REQUEST_OPEN, 1, 0, FENSTUBBLE_REQUEST_GRANT, 0, 2};
     static const uint8_t set[FENSTUBBLE_SET_BYTES] = {7};
     static uint16_t rows[FENSTUBBLE_OPEN_ROWS], inner, outer, view, answers[6];
-    static size_t start, length, used;
+    static size_t start, length, used, place;
     CALL(fenstubble_check(BOOK));
     CALL(fenstubble_write(BOOK, bytes, sizeof bytes, &length));
-    CALL(fenstubble_section(bytes, length, 4, &start, &used));
-    CALL(fenstubble_read(bytes, length, BOOK));
+    CALL(fenstubble_section(bytes, length, 4, &start, &used, &place));
+    CALL(fenstubble_read(bytes, length, BOOK, &place));
+    bytes[length - 4]--; /* the folder has another inner vertex */
+    CALL_FOR(FENSTUBBLE_BROKEN_S7, fenstubble_section(bytes, length, 4, &start, &used, &place));
+    CALL_FOR(FENSTUBBLE_BROKEN_S7, fenstubble_read(bytes, length, BOOK, &place));
     CALL(fenstubble_join(BOOK, ORDERS));
     CALL(fenstubble_insert(BOOK, ORDERS, set, sizeof set));
     CALL(fenstubble_grant(BOOK, ORDERS, 0, 2));
@@ -387,6 +494,9 @@ int main(void) {
     groups_full();
     tokens_full();
     layout();
+    places();
+    more_places();
+    rows();
     served();
     stacks();
     return 0;

@@ -94,6 +94,37 @@ pub struct ResourceRow {
     pub outer: Option<OuterVertex>,
 }
 
+/// One of the five tables, as a section of a book's bytes.
+#[derive(Clone, Copy, Debug, PartialEq, Eq, PartialOrd, Ord, Hash)]
+pub enum Section {
+    /// 0.
+    InnerVertices,
+    /// 1.
+    InnerTokens,
+    /// 2.
+    OuterVertices,
+    /// 3.
+    OuterTokens,
+    /// 4.
+    Resources,
+}
+
+impl Section {
+    /// All of them, as they follow each other in a book.
+    pub const ALL: [Section; 5] = [
+        Section::InnerVertices,
+        Section::InnerTokens,
+        Section::OuterVertices,
+        Section::OuterTokens,
+        Section::Resources,
+    ];
+
+    /// Its number, 0 to 4.
+    pub fn number(self) -> usize {
+        self as usize
+    }
+}
+
 /// The numbers at the head of a book. Any values can stand here; most make
 /// no sound book.
 #[derive(Clone, Copy, Debug, Default, PartialEq, Eq)]

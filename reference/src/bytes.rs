@@ -1,20 +1,33 @@
-//! The book as bytes, and its five sections.
+//! The book as bytes, its five sections, and what is wrong with bytes that are
+//! no book.
 
 use std::ops::Range;
 
 use crate::book::{
-    Book, Head, InnerToken, OuterToken, ResourceRow, SoundBook, MAX_INNER_TOKENS,
+    Book, Head, InnerToken, Mode, OuterToken, ResourceRow, SoundBook, MAX_INNER_TOKENS,
     MAX_INNER_VERTICES, MAX_OUTER_TOKENS, MAX_OUTER_VERTICES, MAX_RESOURCES, NO_OUTER_KEY,
 };
+use crate::fault::Fault;
 use crate::numbers::{InnerVertex, OuterVertex};
 use crate::refusal::Refusal;
 use crate::sets::UserSet;
-use crate::sound::possible;
+use crate::sound::{first_broken, first_over, limited, At};
 
-/// The mark and the version at the start of a book.
-pub const MARK: [u8; 5] = [0x54, 0x4B, 0x42, 1, 0];
+/// The mark at the start of a book.
+pub const MARK: [u8; 3] = [0x54, 0x4B, 0x42];
+/// The version behind it.
+pub const VERSION: u16 = 1;
+/// Where the version starts.
+pub const VERSION_PLACE: usize = 3;
+/// Where the mode stands.
+pub const MODE_PLACE: usize = 5;
+/// Where the counts start: users, resources, inner vertices, inner tokens,
+/// outer vertices, outer tokens.
+pub const COUNT_PLACES: [usize; 6] = [6, 7, 9, 11, 13, 15];
 /// Bytes before the first section.
 pub const HEAD_LENGTH: usize = 17;
+/// What is told for the place of a vertex that is missing.
+pub const NO_PLACE: usize = 65535;
 /// Bytes of a row in each section: inner vertices, inner tokens, outer
 /// vertices, outer tokens, resources.
 pub const WIDTHS: [usize; 5] = [8, 5, 8, 4, 12];
@@ -144,14 +157,29 @@ pub fn length(head: &Head) -> usize {
     sections(head)[4].end
 }
 
-/// Reads the head, if the bytes have the mark, the version, a head with a
-/// possible mode and possible counts, and exactly the length it asks for.
-pub fn read_head(bytes: &[u8]) -> Option<Head> {
-    if bytes.len() < HEAD_LENGTH || bytes[..5] != MARK {
-        return None;
+/// Reads the head: of bytes with the mark and the version, with a possible
+/// mode, possible counts, and exactly the length these ask for.
+pub fn read_head(bytes: &[u8]) -> Result<Head, Fault> {
+    let found = bytes.len();
+    if found < HEAD_LENGTH {
+        let asked = None;
+        return Err(Fault::Length { found, asked });
     }
+    if bytes[..3] != MARK {
+        return Err(Fault::Mark);
+    }
+    let version = read_16(bytes, VERSION_PLACE);
+    if version != VERSION {
+        return Err(Fault::Version(version));
+    }
+    let mode = u16::from(bytes[MODE_PLACE]);
+    if Mode::of(mode).is_none() {
+        return Err(Fault::Mode(mode));
+    }
+    // Here the length is judged by the header of the version. The only version
+    // has the header that was asked for above.
     let head = Head {
-        mode: u16::from(bytes[5]),
+        mode,
         users: u16::from(bytes[6]),
         resources: read_16(bytes, 7),
         inner_vertices: read_16(bytes, 9),
@@ -159,12 +187,33 @@ pub fn read_head(bytes: &[u8]) -> Option<Head> {
         outer_vertices: read_16(bytes, 13),
         outer_tokens: read_16(bytes, 15),
     };
-    (possible(&head) && bytes.len() == length(&head)).then_some(head)
+    if let Some(count) = first_over(&head) {
+        let limited = limited(&head)[count];
+        let place = COUNT_PLACES[count];
+        return Err(Fault::Count { limited, place });
+    }
+    let asked = length(&head);
+    if found != asked {
+        let asked = Some(asked);
+        return Err(Fault::Length { found, asked });
+    }
+    Ok(head)
 }
 
-/// Reads a sound book. Refusal: 12.
-pub fn read(bytes: &[u8]) -> Result<SoundBook, Refusal> {
-    let head = read_head(bytes).ok_or(Refusal::UNSOUND)?;
+/// Where in the bytes of a book with that head a rule is broken.
+fn place(head: &Head, at: At) -> usize {
+    match at {
+        At::Row(section, row) => {
+            let k = section.number();
+            sections(head)[k].start + row * WIDTHS[k]
+        }
+        At::Missing => NO_PLACE,
+    }
+}
+
+/// Reads a sound book, or tells the first thing that is wrong with the bytes.
+pub fn read(bytes: &[u8]) -> Result<SoundBook, Fault> {
+    let head = read_head(bytes)?;
     let [inner_vertices, inner_tokens, outer_vertices, outer_tokens, resources] = sections(&head);
     let book = Book {
         mode: head.mode,
@@ -175,7 +224,13 @@ pub fn read(bytes: &[u8]) -> Result<SoundBook, Refusal> {
         outer_tokens: read_rows(&bytes[outer_tokens]),
         resources: read_rows(&bytes[resources]),
     };
-    SoundBook::new(book).map_err(|_| Refusal::UNSOUND)
+    match first_broken(&book) {
+        Some(broken) => {
+            let place = place(&head, broken.at);
+            Err(Fault::Broken { broken, place })
+        }
+        None => Ok(SoundBook(book)),
+    }
 }
 
 /// The book as bytes. Any book whose numbers fit can be written this way,
@@ -183,7 +238,8 @@ pub fn read(bytes: &[u8]) -> Result<SoundBook, Refusal> {
 pub fn write(book: &Book) -> Vec<u8> {
     let head = book.head();
     let mut bytes = vec![0; length(&head)];
-    bytes[..5].copy_from_slice(&MARK);
+    bytes[..3].copy_from_slice(&MARK);
+    bytes[3..5].copy_from_slice(&VERSION.to_le_bytes());
     bytes[5] = head.mode as u8;
     bytes[6] = head.users as u8;
     let counts = [
@@ -205,8 +261,8 @@ pub fn write(book: &Book) -> Vec<u8> {
     bytes
 }
 
-/// The stretch of a sound book's bytes that is its section `k`. Refusals: 12,
-/// then 1.
+/// The stretch of a sound book's bytes that is its section `k`. Refusals: what
+/// is wrong with the bytes, then 1.
 pub fn section(bytes: &[u8], k: u16) -> Result<&[u8], Refusal> {
     let book = read(bytes)?;
     let stretch = sections(&book.book().head())

@@ -475,7 +475,7 @@ fn no_circle(vertices: usize, mut steps: Vec<(usize, usize)>) -> bool {
 /// the stretches of the bytes.
 fn check_bytes(book: &Book) -> Result<(), String> {
     let written = bytes::write(book);
-    let read = bytes::read(&written).map_err(|no| format!("its own bytes: {no}"))?;
+    let read = bytes::read(&written).map_err(|fault| format!("its own bytes: {fault}"))?;
     must!(read.book() == book, "read back, the book is another");
     must!(
         bytes::write(read.book()) == written,
@@ -484,10 +484,10 @@ fn check_bytes(book: &Book) -> Result<(), String> {
     must!(written.len() <= bytes::LARGEST, "larger than the largest");
     let mut start = bytes::HEAD_LENGTH;
     for k in 0..5 {
-        let mut cell = UNUSED_NUMBER;
-        let stretch = lent::section(&written, k, &mut cell);
+        let (mut cell, mut place) = (UNUSED_NUMBER, usize::MAX);
+        let stretch = lent::section(&written, k, &mut cell, &mut place);
         must!(
-            cell == 0 && stretch.as_ptr() == written[start..].as_ptr(),
+            cell == 0 && place == 0 && stretch.as_ptr() == written[start..].as_ptr(),
             "section {k} starts elsewhere"
         );
         start += stretch.len();

@@ -2,7 +2,7 @@
 //! the row layout of the book's sections.
 //!
 //! Every call makes its own checks, in the order of the table of refusals. A
-//! refusal leaves every lent byte as it was, but for the cell of
+//! refusal leaves every lent byte as it was, but for the cells of
 //! [`section`]. Rows past the book's counts, order rows and buffer bytes past
 //! the answer are never touched.
 
@@ -275,24 +275,24 @@ pub fn serve(
     Ok((book.book().head(), used))
 }
 
-/// Section `k` of a book, as the stretch of the lent bytes themselves. The
-/// cell takes the refusal's number, 0 if there is none; a refusal shows an
-/// empty stretch. Refusals: 12, 1.
-pub fn section<'a>(bytes: &'a [u8], k: u16, cell: &mut u16) -> &'a [u8] {
+/// Section `k` of a book, as the stretch of the lent bytes themselves. One
+/// cell takes the refusal's number, the other its place, 0 where there is none;
+/// a refusal shows an empty stretch. Refusals: what is wrong with the bytes, 1.
+pub fn section<'a>(bytes: &'a [u8], k: u16, cell: &mut u16, place: &mut usize) -> &'a [u8] {
     match bytes::section(bytes, k) {
         Ok(stretch) => {
-            *cell = 0;
+            (*cell, *place) = (0, 0);
             stretch
         }
         Err(no) => {
-            *cell = u16::from(no.number);
+            (*cell, *place) = (u16::from(no.number), no.place_number());
             &bytes[..0]
         }
     }
 }
 
 /// Reads a book into the tables and answers its head. Touches no row past
-/// the book's counts. Refusals: 13, 12.
+/// the book's counts. Refusals: 13, then what is wrong with the bytes.
 pub fn read(bytes: &[u8], tables: &mut Tables) -> Result<Head, Refusal> {
     tables.long_enough()?;
     let book = bytes::read(bytes)?;

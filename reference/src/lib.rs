@@ -11,13 +11,15 @@
 //! | [`sets`] | sets of users |
 //! | [`book`] | the tables, their limits, the [`Head`](book::Head) |
 //! | [`mod@derive`] | what a user derives by tokens and hashing; views |
-//! | [`sound`] | the rules S1 to S8 |
+//! | [`sound`] | the rules S1 to S8, and where one is broken first |
 //! | [`requests`] | join, insert, grant, revoke, and their orders |
 //! | [`open`] | the chains of an open folder |
 //! | [`refusal`] | the numbers of a no |
 //! | [`bytes`] | the book as bytes, its sections |
+//! | [`fault`] | what is wrong with bytes that are no book |
 //! | [`lent`] | the same calls over tables lent as bytes |
 //! | [`program`] | the request program |
+//! | [`inspect`] | the check program |
 //! | [`host`] | a host that only executes orders, with toy keys |
 //! | [`generate`] | random sound books, damaged books and requests |
 //! | [`check`] | random runs that verify every step |
@@ -29,8 +31,10 @@ pub mod book;
 pub mod bytes;
 pub mod check;
 pub mod derive;
+pub mod fault;
 pub mod generate;
 pub mod host;
+pub mod inspect;
 pub mod lent;
 pub mod numbers;
 pub mod open;

@@ -1,9 +1,10 @@
-//! The command: the request program, or random runs that check themselves.
+//! The command: the request program, the check program, or random runs that
+//! check themselves.
 
 use std::io::{self, ErrorKind, Write};
 use std::process::ExitCode;
 
-use fenstubble_reference::{check, program};
+use fenstubble_reference::{check, inspect, program};
 
 const HELP: &str = "\
 reference: an independent model of the two-layer book
@@ -13,6 +14,10 @@ reference < requests
     further line a request, `join`, `insert u u ..`, `grant r u`,
     `revoke r u` or `open u r`. Each is answered with `ok N` and N rows, or
     with `no K`.
+
+reference --inspect < book
+    Runs the check program: of bytes that are a book it prints `sound` and the
+    head, of others `no K PLACE` and what is wrong there.
 
 reference --check [seed] [steps]
     Makes random requests (20000 from seed 1, if not told otherwise) in random
@@ -31,8 +36,9 @@ fn main() -> ExitCode {
         .collect();
     let words: Vec<&str> = arguments.iter().map(String::as_str).collect();
     match words.as_slice() {
-        [] => requests(),
+        [] => ended(program::run(io::stdin().lock(), io::stdout().lock())),
         ["--help"] => print(HELP),
+        ["--inspect"] => ended(inspect::run(io::stdin().lock(), io::stdout().lock())),
         ["--check", numbers @ ..] if numbers.len() <= 2 => {
             let mut given = [1, 20_000];
             for (number, word) in given.iter_mut().zip(numbers) {
@@ -43,15 +49,16 @@ fn main() -> ExitCode {
             }
             checks(given[0], given[1])
         }
+        ["--inspect", ..] => misused("--inspect takes no argument"),
         ["--check", ..] => misused("--check takes a seed and a count of steps, no more"),
         [other, ..] => misused(&format!("unknown argument: {other}")),
     }
 }
 
-fn requests() -> ExitCode {
-    match program::run(io::stdin().lock(), io::stdout().lock()) {
+fn ended(done: io::Result<()>) -> ExitCode {
+    match done {
         Ok(()) => ExitCode::SUCCESS,
-        // Nobody reads on: that is no fault of the requests.
+        // Nobody reads on: that is no fault of the input.
         Err(error) if error.kind() == ErrorKind::BrokenPipe => ExitCode::SUCCESS,
         Err(_) => ExitCode::FAILURE,
     }
@@ -68,11 +75,7 @@ fn checks(seed: u64, steps: u64) -> ExitCode {
 }
 
 fn print(text: &str) -> ExitCode {
-    match io::stdout().lock().write_all(text.as_bytes()) {
-        Ok(()) => ExitCode::SUCCESS,
-        Err(error) if error.kind() == ErrorKind::BrokenPipe => ExitCode::SUCCESS,
-        Err(_) => ExitCode::FAILURE,
-    }
+    ended(io::stdout().lock().write_all(text.as_bytes()))
 }
 
 fn misused(text: &str) -> ExitCode {

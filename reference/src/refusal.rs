@@ -1,4 +1,4 @@
-//! The numbers of a no, and the views.
+//! The numbers of a no, with a view or a place, and the views.
 
 use std::fmt;
 
@@ -40,10 +40,12 @@ impl View {
 /// A call said no and changed nothing.
 #[derive(Clone, Copy, Debug, PartialEq, Eq)]
 pub struct Refusal {
-    /// The number, 1 to 14.
+    /// The number: 1 to 14, 20 to 24, 31 to 38.
     pub number: u8,
     /// With 11, the view.
     pub view: Option<View>,
+    /// From 20 on, the place.
+    pub place: Option<usize>,
 }
 
 impl Refusal {
@@ -67,7 +69,7 @@ impl Refusal {
     pub const OUTER_TOKENS_FULL: Refusal = Refusal::no(9);
     /// 10: the list or buffer lent for the answer is too short.
     pub const TOO_SHORT: Refusal = Refusal::no(10);
-    /// 12: not a sound book.
+    /// 12: tables without a sound book.
     pub const UNSOUND: Refusal = Refusal::no(12);
     /// 13: a lent table is shorter than its limit.
     pub const TABLE_SHORT: Refusal = Refusal::no(13);
@@ -75,14 +77,26 @@ impl Refusal {
     pub const MALFORMED: Refusal = Refusal::no(14);
 
     const fn no(number: u8) -> Refusal {
-        Refusal { number, view: None }
+        Refusal {
+            number,
+            view: None,
+            place: None,
+        }
     }
 
     /// 11: open with a view other than open.
     pub const fn closed(view: View) -> Refusal {
         Refusal {
-            number: 11,
             view: Some(view),
+            ..Refusal::no(11)
+        }
+    }
+
+    /// 20 to 24 and 31 to 38: bytes that are no book, wrong at that place.
+    pub const fn misread(number: u8, place: usize) -> Refusal {
+        Refusal {
+            place: Some(place),
+            ..Refusal::no(number)
         }
     }
 
@@ -90,14 +104,23 @@ impl Refusal {
     pub fn view_number(self) -> u8 {
         self.view.map_or(0, View::number)
     }
+
+    /// The place, 0 where there is none.
+    pub fn place_number(self) -> usize {
+        self.place.unwrap_or(0)
+    }
 }
 
 impl fmt::Display for Refusal {
     fn fmt(&self, f: &mut fmt::Formatter<'_>) -> fmt::Result {
-        match self.view {
-            Some(view) => write!(f, "no {} {}", self.number, view.number()),
-            None => write!(f, "no {}", self.number),
+        write!(f, "no {}", self.number)?;
+        if let Some(view) = self.view {
+            write!(f, " {}", view.number())?;
         }
+        if let Some(place) = self.place {
+            write!(f, " {place}")?;
+        }
+        Ok(())
     }
 }
 

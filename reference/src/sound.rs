@@ -1,12 +1,15 @@
-//! A sound book: the rules S1 to S8, tried in order.
+//! A sound book: the rules S1 to S8, tried in order, and the first row that
+//! breaks one.
 
 use std::cell::OnceCell;
+use std::collections::HashSet;
 
 use crate::book::{
-    Book, Head, Mode, KIND_ACCESS, KIND_DERIVATION, MAX_INNER_TOKENS, MAX_OUTER_GROUPS,
-    MAX_OUTER_TOKENS, MAX_RESOURCES, MAX_USERS,
+    Book, Head, InnerToken, Mode, OuterToken, ResourceRow, Section, KIND_ACCESS, KIND_DERIVATION,
+    MAX_INNER_TOKENS, MAX_OUTER_GROUPS, MAX_OUTER_TOKENS, MAX_RESOURCES, MAX_USERS,
 };
 use crate::derive::InnerKnowers;
+use crate::numbers::InnerVertex;
 use crate::sets::UserSet;
 
 /// A rule of the sound book.
@@ -44,38 +47,102 @@ impl Rule {
         Rule::S7,
         Rule::S8,
     ];
+
+    /// Its number, 1 to 8.
+    pub fn number(self) -> u8 {
+        self as u8 + 1
+    }
+}
+
+/// Where a rule is broken.
+#[derive(Clone, Copy, Debug, PartialEq, Eq)]
+pub enum At {
+    /// In that row of that section.
+    Row(Section, usize),
+    /// In no row: a joined user's own vertex is missing.
+    Missing,
+}
+
+/// A rule that a book breaks, and where it does so first.
+#[derive(Clone, Copy, Debug, PartialEq, Eq)]
+pub struct Broken {
+    /// The rule.
+    pub rule: Rule,
+    /// The first row that breaks it.
+    pub at: At,
 }
 
 /// Whether the book is sound; else the first rule it breaks.
 pub fn sound(book: &Book) -> Result<(), Rule> {
-    if !s1(book) {
+    if !possible(&book.head()) {
         return Err(Rule::S1);
     }
-    let judge = Judge::of(book);
-    match Rule::ALL
-        .into_iter()
-        .skip(1)
-        .find(|&rule| !judge.keeps(rule))
-    {
-        Some(rule) => Err(rule),
+    match first_broken(book) {
+        Some(broken) => Err(broken.rule),
         None => Ok(()),
     }
+}
+
+/// The first rule that the rows of the book break, and where. Mode and counts
+/// stand in no row, and are judged before.
+pub fn first_broken(book: &Book) -> Option<Broken> {
+    let judge = Judge::of(book);
+    Rule::ALL.into_iter().find_map(|rule| judge.first(rule))
 }
 
 /// Every rule the book breaks, each judged for itself. Where S1 is broken the
 /// others mean nothing and are not judged.
 pub fn broken_rules(book: &Book) -> Vec<Rule> {
-    if !s1(book) {
+    let judge = Judge::of(book);
+    if !possible(&book.head()) || judge.first(Rule::S1).is_some() {
         return vec![Rule::S1];
     }
-    let judge = Judge::of(book);
     let mut rules = Rule::ALL.to_vec();
-    rules.retain(|&rule| !judge.keeps(rule));
+    rules.retain(|&rule| judge.first(rule).is_some());
     rules
 }
 
-/// A book that keeps S1, so that every number used is the number of a row,
-/// and what the other rules look at.
+/// A count of a head and its limit.
+#[derive(Clone, Copy, Debug, PartialEq, Eq)]
+pub struct Limited {
+    /// What is counted.
+    pub name: &'static str,
+    /// How many there are.
+    pub count: usize,
+    /// How many there may be.
+    pub most: usize,
+}
+
+/// The counts of a head with their limits, in the order of the header.
+pub fn limited(head: &Head) -> [Limited; 6] {
+    let [inner_vertices, inner_tokens, outer_vertices, outer_tokens, resources] = head.counts();
+    let users = usize::from(head.users);
+    [
+        ("users", users, MAX_USERS),
+        ("folders", resources, MAX_RESOURCES),
+        ("inner vertices", inner_vertices, users + resources),
+        ("inner tokens", inner_tokens, MAX_INNER_TOKENS),
+        ("outer vertices", outer_vertices, users + MAX_OUTER_GROUPS),
+        ("outer tokens", outer_tokens, MAX_OUTER_TOKENS),
+    ]
+    .map(|(name, count, most)| Limited { name, count, most })
+}
+
+/// The first count of a head that is over its limit, by its place in
+/// [`limited`].
+pub fn first_over(head: &Head) -> Option<usize> {
+    limited(head)
+        .iter()
+        .position(|limited| limited.count > limited.most)
+}
+
+/// The part of S1 that a head alone decides: mode and counts.
+pub fn possible(head: &Head) -> bool {
+    Mode::of(head.mode).is_some() && first_over(head).is_none()
+}
+
+/// A book, and what the rules look at. Rules after S1 may only be judged of a
+/// book that keeps S1, so that every number used is the number of a row.
 struct Judge<'a> {
     book: &'a Book,
     inner: Layer<'a>,
@@ -94,208 +161,201 @@ impl<'a> Judge<'a> {
         }
     }
 
-    fn knowers(&self) -> &InnerKnowers {
-        self.knowers.get_or_init(|| InnerKnowers::of(self.book))
+    fn holders(&self, vertex: InnerVertex) -> UserSet {
+        let knowers = self.knowers.get_or_init(|| InnerKnowers::of(self.book));
+        knowers.holders(vertex)
     }
 
-    fn keeps(&self, rule: Rule) -> bool {
-        let joined = self.book.joined();
-        match rule {
-            Rule::S1 => s1(self.book),
-            Rule::S2 => {
-                self.inner.s2(joined)
-                    && self.outer.s2(joined)
-                    && !self.inner.sets.contains(&UserSet::EMPTY)
-            }
-            Rule::S3 => self.inner.s3() && self.outer.s3(),
-            Rule::S4 => self.inner.s4() && self.outer.s4(),
-            Rule::S5 => self.inner.s5() && self.outer.s5(),
-            Rule::S6 => s6(self.book),
-            Rule::S7 => s7(self.book, self.knowers()),
-            Rule::S8 => s8(self.book, self.knowers()),
+    /// Where the rule is broken first: section by section, and row by row in
+    /// each. A missing vertex comes before all rows.
+    fn first(&self, rule: Rule) -> Option<Broken> {
+        let missing = || self.inner.misses_an_own_vertex() || self.outer.misses_an_own_vertex();
+        if rule == Rule::S2 && missing() {
+            let at = At::Missing;
+            return Some(Broken { rule, at });
         }
+        Section::ALL.into_iter().find_map(|section| {
+            let row = match section {
+                Section::InnerVertices => self.inner.first_vertex(rule),
+                Section::InnerTokens => self.inner.first_token(rule),
+                Section::OuterVertices => self.outer.first_vertex(rule),
+                Section::OuterTokens => self.outer.first_token(rule),
+                Section::Resources => self.first_resource(rule),
+            };
+            let at = At::Row(section, row?);
+            Some(Broken { rule, at })
+        })
+    }
+
+    /// The first resource that breaks the rule.
+    fn first_resource(&self, rule: Rule) -> Option<usize> {
+        let breaks: &dyn Fn(&ResourceRow) -> bool = match rule {
+            Rule::S1 => &|row| {
+                !row.list.within(self.book.joined())
+                    || !self.inner.has(row.inner.index())
+                    || row
+                        .outer
+                        .is_some_and(|outer| !self.outer.has(outer.index()))
+            },
+            Rule::S7 => &|row| !row.list.within(self.holders(row.inner)),
+            Rule::S8 => &|row| {
+                let unlocked =
+                    self.book.mode == Mode::Delta.number() && self.holders(row.inner) == row.list;
+                match row.outer {
+                    None => !unlocked,
+                    Some(outer) => unlocked || self.outer.sets[outer.index()] != row.list,
+                }
+            },
+            _ => return None,
+        };
+        self.book.resources.iter().position(breaks)
     }
 }
 
-/// The part of S1 that a head alone decides: mode and counts.
-pub fn possible(head: &Head) -> bool {
-    let [inner_vertices, inner_tokens, outer_vertices, outer_tokens, resources] = head.counts();
-    possible_counts(
-        head.mode,
-        usize::from(head.users),
-        inner_vertices,
-        inner_tokens,
-        outer_vertices,
-        outer_tokens,
-        resources,
-    )
+/// A token of either layer; those of the outer layer have kind 0.
+struct Token {
+    from: u16,
+    to: u16,
+    kind: u8,
 }
 
-fn possible_counts(
-    mode: u16,
-    users: usize,
-    inner_vertices: usize,
-    inner_tokens: usize,
-    outer_vertices: usize,
-    outer_tokens: usize,
-    resources: usize,
-) -> bool {
-    Mode::of(mode).is_some()
-        && users <= MAX_USERS
-        && resources <= MAX_RESOURCES
-        && inner_vertices <= users + resources
-        && inner_tokens <= MAX_INNER_TOKENS
-        && outer_vertices <= users + MAX_OUTER_GROUPS
-        && outer_tokens <= MAX_OUTER_TOKENS
+impl Token {
+    /// Where it starts and where it leads.
+    fn ends(&self) -> [usize; 2] {
+        [self.from, self.to].map(usize::from)
+    }
+
+    /// Whether it gives a key from which more can be derived.
+    fn is_step(&self) -> bool {
+        self.kind == KIND_DERIVATION
+    }
 }
 
-fn s1(book: &Book) -> bool {
-    let inner = book.inner_vertices.len();
-    let outer = book.outer_vertices.len();
-    let joined = book.joined();
-    possible_counts(
-        book.mode,
-        usize::from(book.users),
-        inner,
-        book.inner_tokens.len(),
-        outer,
-        book.outer_tokens.len(),
-        book.resources.len(),
-    ) && book.inner_tokens.iter().all(|token| {
-        (token.kind == KIND_DERIVATION || token.kind == KIND_ACCESS)
-            && token.from.index() < inner
-            && token.to.index() < inner
-    }) && book
-        .outer_tokens
-        .iter()
-        .all(|token| token.from.index() < outer && token.to.index() < outer)
-        && book.resources.iter().all(|row| {
-            row.list.within(joined)
-                && row.inner.index() < inner
-                && row.outer.is_none_or(|vertex| vertex.index() < outer)
-        })
-        && book.inner_vertices.iter().all(|set| set.within(joined))
-        && book.outer_vertices.iter().all(|set| set.within(joined))
-}
-
-/// What both layers have: vertices with sets, and steps between them that
-/// give a key from which more can be derived (kind 0 or outer tokens).
+/// What both layers have: vertices with sets, and tokens between them.
 struct Layer<'a> {
+    joined: UserSet,
     sets: &'a [UserSet],
-    steps: Vec<(u16, u16)>,
+    tokens: Vec<Token>,
+    /// Whether a set may be empty.
+    may_be_empty: bool,
 }
 
 impl<'a> Layer<'a> {
     fn inner(book: &'a Book) -> Layer<'a> {
-        let steps = book
-            .inner_tokens
-            .iter()
-            .filter(|token| token.kind == KIND_DERIVATION);
+        let token = |token: &InnerToken| Token {
+            from: token.from.0,
+            to: token.to.0,
+            kind: token.kind,
+        };
         Layer {
+            joined: book.joined(),
             sets: &book.inner_vertices,
-            steps: steps.map(|token| (token.from.0, token.to.0)).collect(),
+            tokens: book.inner_tokens.iter().map(token).collect(),
+            may_be_empty: false,
         }
     }
 
     fn outer(book: &'a Book) -> Layer<'a> {
-        let steps = book.outer_tokens.iter();
+        let token = |token: &OuterToken| Token {
+            from: token.from.0,
+            to: token.to.0,
+            kind: KIND_DERIVATION,
+        };
         Layer {
+            joined: book.joined(),
             sets: &book.outer_vertices,
-            steps: steps.map(|token| (token.from.0, token.to.0)).collect(),
+            tokens: book.outer_tokens.iter().map(token).collect(),
+            may_be_empty: true,
         }
     }
 
-    /// The sets at both ends of each step.
-    fn ends(&self) -> impl Iterator<Item = (UserSet, UserSet)> + '_ {
-        let set = |vertex: u16| self.sets[usize::from(vertex)];
-        self.steps
-            .iter()
-            .map(move |&(from, to)| (set(from), set(to)))
+    /// Whether there is a vertex with that number.
+    fn has(&self, vertex: usize) -> bool {
+        vertex < self.sets.len()
     }
 
-    /// Everyone joined has an own vertex, and no step enters one. Sets name
-    /// joined users only, so a set of one user is that of an own vertex.
-    fn s2(&self, joined: UserSet) -> bool {
+    /// Whether somebody who has joined has no own vertex.
+    fn misses_an_own_vertex(&self) -> bool {
         let alone = self.sets.iter().filter(|set| set.size() == 1);
         let owners = alone.fold(UserSet::EMPTY, |all, set| all.union(*set));
-        owners == joined && self.ends().all(|(_, to)| to.size() != 1)
+        !self.joined.within(owners)
     }
 
-    fn s3(&self) -> bool {
-        let mut sorted = self.sets.to_vec();
-        sorted.sort_unstable();
-        sorted.windows(2).all(|pair| pair[0] != pair[1])
+    /// The first vertex that breaks the rule.
+    fn first_vertex(&self, rule: Rule) -> Option<usize> {
+        let mut sets = self.sets.iter();
+        match rule {
+            Rule::S1 => sets.position(|set| !set.within(self.joined)),
+            Rule::S2 => sets.position(|set| set.is_empty() && !self.may_be_empty),
+            Rule::S3 => {
+                let mut before = HashSet::new();
+                sets.position(|set| !before.insert(set))
+            }
+            Rule::S5 => {
+                let mut pairs = sets.zip(self.unions());
+                pairs.position(|(set, union)| set.size() != 1 && *set != union)
+            }
+            _ => None,
+        }
     }
 
-    fn s4(&self) -> bool {
-        self.ends()
-            .all(|(from, to)| !from.is_empty() && from.strictly_within(to))
-    }
-
-    fn s5(&self) -> bool {
+    /// For each vertex, everyone in the sets that a step into it starts at.
+    fn unions(&self) -> Vec<UserSet> {
         let mut unions = vec![UserSet::EMPTY; self.sets.len()];
-        for &(from, to) in &self.steps {
-            let union = &mut unions[usize::from(to)];
-            *union = union.union(self.sets[usize::from(from)]);
+        for step in self.tokens.iter().filter(|token| token.is_step()) {
+            let [from, to] = step.ends();
+            unions[to] = unions[to].union(self.sets[from]);
         }
-        let mut pairs = self.sets.iter().zip(&unions);
-        pairs.all(|(set, union)| set.size() == 1 || set == union)
+        unions
     }
-}
 
-fn s6(book: &Book) -> bool {
-    let sets = &book.inner_vertices;
-    let access_ok = book
-        .inner_tokens
-        .iter()
-        .filter(|token| token.kind == KIND_ACCESS)
-        .all(|token| match sets[token.from.index()].only_user() {
-            Some(user) => !sets[token.to.index()].names(user),
-            None => false,
-        });
-    let inner = sets.len();
-    let outer = book.outer_vertices.len();
-    access_ok
-        && all_different(
-            2 * inner * inner,
-            book.inner_tokens.iter().map(|token| {
-                (token.from.index() * inner + token.to.index()) * 2 + usize::from(token.kind)
+    /// The first token that breaks the rule.
+    fn first_token(&self, rule: Rule) -> Option<usize> {
+        let mut tokens = self.tokens.iter();
+        let sets = |token: &Token| token.ends().map(|vertex| self.sets[vertex]);
+        match rule {
+            Rule::S1 => tokens.position(|token| {
+                let kinds = [KIND_DERIVATION, KIND_ACCESS];
+                !kinds.contains(&token.kind) || !token.ends().iter().all(|&end| self.has(end))
             }),
-        )
-        && all_different(
-            outer * outer,
-            book.outer_tokens
-                .iter()
-                .map(|token| token.from.index() * outer + token.to.index()),
-        )
-}
-
-/// Whether no number below `end` comes twice.
-fn all_different(end: usize, numbers: impl Iterator<Item = usize>) -> bool {
-    let mut seen = vec![0u64; end.div_ceil(64)];
-    for number in numbers {
-        let bit = 1 << (number % 64);
-        if seen[number / 64] & bit != 0 {
-            return false;
+            Rule::S2 => tokens.position(|token| {
+                let [_, to] = sets(token);
+                token.is_step() && to.size() == 1
+            }),
+            Rule::S4 => tokens.position(|token| {
+                let [from, to] = sets(token);
+                token.is_step() && (from.is_empty() || !from.strictly_within(to))
+            }),
+            Rule::S6 => {
+                let lets_in = |token: &Token| {
+                    let [from, to] = sets(token);
+                    from.only_user().is_some_and(|user| !to.names(user))
+                };
+                let mut before = Numbers::below(2 * self.sets.len() * self.sets.len());
+                tokens.position(|token| {
+                    let [from, to] = token.ends();
+                    let row = (from * self.sets.len() + to) * 2 + usize::from(token.kind);
+                    !before.insert(row) || (!token.is_step() && !lets_in(token))
+                })
+            }
+            _ => None,
         }
-        seen[number / 64] |= bit;
     }
-    true
 }
 
-fn s7(book: &Book, knowers: &InnerKnowers) -> bool {
-    book.resources
-        .iter()
-        .all(|row| row.list.within(knowers.holders(row.inner)))
-}
+/// A set of numbers below some end.
+struct Numbers(Vec<u64>);
 
-fn s8(book: &Book, knowers: &InnerKnowers) -> bool {
-    let delta = book.mode == Mode::Delta.number();
-    book.resources.iter().all(|row| match row.outer {
-        None => delta && knowers.holders(row.inner) == row.list,
-        Some(vertex) => {
-            book.outer_vertices[vertex.index()] == row.list
-                && !(delta && knowers.holders(row.inner) == row.list)
-        }
-    })
+impl Numbers {
+    fn below(end: usize) -> Numbers {
+        Numbers(vec![0; end.div_ceil(64)])
+    }
+
+    /// Adds a number; whether it was new.
+    fn insert(&mut self, number: usize) -> bool {
+        let (word, bit) = (&mut self.0[number / 64], 1 << (number % 64));
+        let new = *word & bit == 0;
+        *word |= bit;
+        new
+    }
 }

@@ -82,6 +82,10 @@ fn thirteen_before_all() {
     assert!(store.parts.iter().all(|part| part.ends_with(&[9; 7])));
 }
 
+/// What [`every_call`] gets on tables without a sound book: 12, but for the
+/// read of bytes that are too few.
+const UNSOUND: [u8; 9] = [12, 12, 12, 12, 12, 12, 12, 12, 24];
+
 #[test]
 fn twelve_before_the_rest() {
     let book = base();
@@ -171,11 +175,11 @@ fn twelve_before_the_rest() {
         },
     ];
     for bad in heads {
-        assert_eq!(every_call(&bad, &mut store, b"TKB"), [12; 9], "{bad:?}");
+        assert_eq!(every_call(&bad, &mut store, b"TKB"), UNSOUND, "{bad:?}");
     }
     // A sound head over a damaged row.
     store.parts[4][8] = 2;
-    assert_eq!(every_call(&head, &mut store, b"TKB"), [12; 9]);
+    assert_eq!(every_call(&head, &mut store, b"TKB"), UNSOUND);
 }
 
 #[test]
@@ -244,17 +248,17 @@ fn read_write_and_sections() {
         let counts = head.counts();
         let mut start = 17;
         for k in 0..5 {
-            let mut cell = 77;
-            let stretch = lent::section(&written, k as u16, &mut cell);
-            assert_eq!(cell, 0);
+            let (mut cell, mut place) = (77, 77);
+            let stretch = lent::section(&written, k as u16, &mut cell, &mut place);
+            assert_eq!((cell, place), (0, 0));
             assert_eq!(stretch.len(), counts[k] * WIDTHS[k]);
             assert!(std::ptr::eq(stretch.as_ptr(), written[start..].as_ptr()));
             start += stretch.len();
         }
         for k in [5, 6, 255, 256, 65535] {
-            let mut cell = 77;
-            assert!(lent::section(&written, k, &mut cell).is_empty());
-            assert_eq!(cell, 1);
+            let (mut cell, mut place) = (77, 77);
+            assert!(lent::section(&written, k, &mut cell, &mut place).is_empty());
+            assert_eq!((cell, place), (1, 0));
         }
 
         // One byte more or less is no book.
@@ -262,11 +266,12 @@ fn read_write_and_sections() {
         longer.push(0);
         for bad in [&longer[..], &written[..written.len() - 1], &[]] {
             for k in [0, 4, 5, 65535] {
-                let mut cell = 77;
-                assert!(lent::section(bad, k, &mut cell).is_empty());
-                assert_eq!(cell, 12);
+                let (mut cell, mut place) = (77, 77);
+                assert!(lent::section(bad, k, &mut cell, &mut place).is_empty());
+                assert_eq!((cell, place), (24, bad.len()));
             }
-            assert_eq!(number(lent::read(bad, &mut store.lend())), 12);
+            let no = lent::read(bad, &mut store.lend()).unwrap_err();
+            assert_eq!(no, Refusal::misread(24, bad.len()));
         }
         assert_eq!(store, other);
     }
@@ -296,7 +301,8 @@ fn every_byte_of_the_head_counts() {
         let old = u16::from_le_bytes([bytes[at], bytes[at + 1]]);
         bytes[at..at + 2].copy_from_slice(&count.to_le_bytes());
         bytes.extend(vec![0; usize::from(count - old) * width]);
-        assert_eq!(bytes::read(&bytes), Err(Refusal::UNSOUND));
+        let fault = bytes::read(&bytes).unwrap_err();
+        assert_eq!((fault.number(), fault.place()), (23, at));
     }
 }
 

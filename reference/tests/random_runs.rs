@@ -1,8 +1,7 @@
 //! Random runs that verify every step, and tables and bytes with any content.
 
-mod common;
+use std::collections::BTreeSet;
 
-use common::number;
 use fenstubble_reference::book::{Head, SoundBook};
 use fenstubble_reference::bytes;
 use fenstubble_reference::check;
@@ -10,6 +9,7 @@ use fenstubble_reference::derive::{keys_of, outer_knowers, view, InnerKnowers};
 use fenstubble_reference::generate::{self, Random, Shape};
 use fenstubble_reference::lent::{self, Store};
 use fenstubble_reference::numbers::{InnerVertex, Resource, User};
+use fenstubble_reference::refusal::Refusal;
 use fenstubble_reference::sound::{broken_rules, sound, Rule};
 
 #[test]
@@ -105,6 +105,11 @@ fn any_tables() {
         all_calls(&mut random, &head, &mut store);
 
         let first = sound(&damaged).err();
+        if damaged.mode < 256 && damaged.users < 256 {
+            // The bytes are a book exactly where the tables are.
+            let read = bytes::read(&bytes::write(&damaged));
+            assert_eq!(read.is_ok(), first.is_none());
+        }
         assert_eq!(broken_rules(&damaged).first().copied(), first);
         seen[first.map_or(8, |rule| rule as usize)] += 1;
         // Derivation is for any tables too.
@@ -164,6 +169,7 @@ fn garbage_tables() {
 fn any_bytes() {
     let mut random = Random::new(43);
     let mut read = 0;
+    let mut seen = BTreeSet::new();
     for round in 0..4000 {
         let shape = if round % 200 == 0 {
             Shape::full(&mut random)
@@ -175,8 +181,8 @@ fn any_bytes() {
         let mut store = Store::filled(0x77);
         let untouched = store.clone();
         let result = lent::read(&damaged, &mut store.lend());
-        let mut cell = 9;
-        let stretch = lent::section(&damaged, (round % 7) as u16, &mut cell);
+        let (mut cell, mut place) = (9, 9);
+        let stretch = lent::section(&damaged, (round % 7) as u16, &mut cell, &mut place);
         match result {
             Ok(head) => {
                 // Whatever is read is sound, and written again is the same.
@@ -186,30 +192,36 @@ fn any_bytes() {
                 let length = lent::write(&head, &store.lend(), &mut buffer);
                 assert_eq!(length, Ok(damaged.len()));
                 assert_eq!(buffer, damaged);
-                assert_eq!(cell, if round % 7 < 5 { 0 } else { 1 });
+                assert_eq!((cell, place), (u16::from(round % 7 > 4), 0));
             }
             Err(no) => {
-                assert_eq!(no.number, 12);
+                let fault = bytes::read(&damaged).unwrap_err();
+                assert_eq!(no, Refusal::from(fault));
                 assert_eq!(store, untouched);
-                assert_eq!(cell, 12);
+                assert_eq!((cell, Some(place)), (no.number.into(), no.place));
                 assert!(stretch.is_empty());
+                seen.insert(no.number);
             }
         }
     }
     assert!(read > 0);
+    assert!(
+        (20..=24).chain(31..=38).eq(seen),
+        "not every number was met"
+    );
     // Bytes that are no book at all.
     for _ in 0..2000 {
         let length = random.below(80);
         let mut any: Vec<u8> = (0..length).map(|_| random.next() as u8 & 3).collect();
         if random.chance(3, 4) {
-            for (byte, mark) in any.iter_mut().zip(bytes::MARK) {
+            for (byte, mark) in any.iter_mut().zip(*b"TKB\x01\0") {
                 *byte = mark;
             }
         }
-        if let Err(no) = bytes::read(&any) {
-            assert_eq!(no.number, 12);
+        let read = bytes::read(&any).map(drop).map_err(Refusal::from);
+        assert_eq!(bytes::section(&any, 0).map(drop), read);
+        if let Err(no) = read {
+            assert!(matches!(no.number, 20..=24 | 31..=38), "{no}");
         }
-        let result = bytes::section(&any, 0);
-        assert!(result.is_ok() || number(result) == 12);
     }
 }

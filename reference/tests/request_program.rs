@@ -6,7 +6,7 @@ use std::io::{self, Read, Write};
 use std::process::{Command, Stdio};
 
 use common::output;
-use fenstubble_reference::program;
+use fenstubble_reference::{inspect, program};
 
 /// Three users and one folder of users 0 and 1.
 const START: &str = "delta\njoin\njoin\njoin\ninsert 0 1\n";
@@ -386,11 +386,19 @@ fn the_command() {
     let (status, out, error) = run(&["--help"], b"");
     assert_eq!((status, error.as_str()), (Some(0), ""));
     assert!(out.contains("--check [seed] [steps]"));
+    assert!(out.contains("--inspect"));
+
+    let told = (Some(0), inspect::report(b"TKB"), String::new());
+    assert_eq!(run(&["--inspect"], b"TKB"), told);
+    let long = vec![b'T'; 200_000];
+    let told = (Some(0), inspect::report(&long), String::new());
+    assert_eq!(run(&["--inspect"], &long), told);
 
     for bad in [
         &["--what"][..],
         &["delta"],
         &["--help", "x"],
+        &["--inspect", "x"],
         &["--check", "x"],
         &["--check", "1", "-1"],
         &["--check", "1", "2", "3"],

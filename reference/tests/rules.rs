@@ -7,9 +7,8 @@ use fenstubble_reference::book::{Book, InnerToken, Mode, OuterToken, ResourceRow
 use fenstubble_reference::bytes;
 use fenstubble_reference::lent::{self, Store};
 use fenstubble_reference::numbers::{InnerVertex, OuterVertex};
-use fenstubble_reference::refusal::Refusal;
 use fenstubble_reference::sets::UserSet;
-use fenstubble_reference::sound::{broken_rules, sound, Rule};
+use fenstubble_reference::sound::{broken_rules, possible, sound, Rule};
 
 const ALL: usize = usize::MAX;
 
@@ -50,7 +49,8 @@ fn resource(list: &[u16], inner: u16, outer: Option<u16>) -> ResourceRow {
 }
 
 /// The change breaks these rules and no others; the first is named, also by
-/// the lent face, and the bytes are no book.
+/// the lent face, and told of the bytes, unless their mode or counts come
+/// before.
 fn breaks(what: &str, rules: &[Rule], change: impl FnOnce(&mut Book)) {
     let mut book = base();
     assert_eq!(sound(&book), Ok(()));
@@ -63,11 +63,13 @@ fn breaks(what: &str, rules: &[Rule], change: impl FnOnce(&mut Book)) {
     let named = lent::broken_rule(&head, &store.lend());
     assert_eq!(named, Ok(Some(rules[0])), "{what}");
     if book.mode < 256 && book.users < 256 {
-        assert_eq!(
-            bytes::read(&bytes::write(&book)),
-            Err(Refusal::UNSOUND),
-            "{what}"
-        );
+        let expected = match (possible(&head), book.mode) {
+            (true, _) => 30 + rules[0].number(),
+            (false, 0 | 1) => 23,
+            (false, _) => 22,
+        };
+        let fault = bytes::read(&bytes::write(&book)).unwrap_err();
+        assert_eq!(fault.number(), expected, "{what}");
     }
 }
 

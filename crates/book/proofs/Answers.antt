@@ -1,41 +1,62 @@
--- What the calls on a book's bytes answer: whether they are a book, its sections, reading and writing. Each law is one way out of a call.
+-- What the calls on a book's bytes answer: what is wrong with them, their sections, reading and writing. Each law is one way out of a call.
 -- Assumes nothing.
 use Prim.Native.Nat.{ℕ, suc, _+_, _*_, _-_, _≤_, _<_}
 use mathlib.Core.Path.{_≡_, refl, sym, ap, ap₂, subst, _∙_}
-use mathlib.Core.Bool.{Bool, true, false, not}
+use mathlib.Core.Bool.{Bool, true, false, not, cond}
 use mathlib.Core.List.{List, [], _∷_}
 use mathlib.Core.Option.{Option, some, none}
 use native.Mathlib.Numerals.{add-one}
 use native.Mathlib.Omega.{arith}
 use lib.Dec.{ltb}
 use lib.ListN.{length, getD, take, drop, length-take, length-drop}
-use borrow.Author.Tests.{not-true, lt-ltb, le-ltb, eq-eqb, le-leb}
+use borrow.Author.Tests.{not-true, lt-ltb, le-ltb, ltb-true}
 use Rattle.rows.specs.Number.{cell, stored}
 use Rattle.rows.proofs.Laws.{cell-add, cell-one}
-use Rattle.rules.specs.Sound.{sound}
-use Rattle.rules.specs.Bytes.{Tables, headIn, start, read, isBook, bookIn, laid, write, Room, Bytes}
-use Rattle.rules.specs.Refusals.{short, common, verdict, refusalRead, refusalSection, refusalWrite}
+use Rattle.rows.proofs.Fill.{row-within}
+use Rattle.rules.specs.Lists.{first}
+use Rattle.rules.specs.Tests.{firstRule, when, firstSome}
+use Rattle.rules.specs.Book.{Book}
+use Rattle.rules.specs.Sound.{inLimit, rules, sound}
+use Rattle.rules.specs.Bytes.{widths, Tables, headOf, headIn, counts, start, sections, read, limitsOf, countPlaces, badCount, placeOf, ruleFault, fault, faultNumber, faultPlace, isBook, bookIn, laid, write, Room, Bytes}
+use Rattle.rules.specs.Refusals.{short, common, verdict, faultyBy, refusalRead, refusalSection, refusalWrite}
 use Rattle.rules.specs.Calls.{part, partBy, sectionCall, loading, loadBy, readCall, writing, writeBy, writeCall}
 use Rattle.rules.specs.declared.Head.{Head}
+use Rattle.rules.specs.declared.Letter.{Letter}
+use Rattle.rules.specs.declared.Spot.{Spot}
+use Rattle.rules.specs.declared.Spot.the-variants.{Row, Missing}
+use Rattle.rules.specs.declared.Fault.{Fault}
+use Rattle.rules.specs.declared.Fault.the-variants.{Count, Rule}
 use Rattle.rules.specs.declared.Refusal.{Refusal}
-use Rattle.rules.specs.declared.Refusal.the-variants.{ShortTable, Unsound, ShortList}
+use Rattle.rules.specs.declared.Refusal.the-variants.{ShortTable, ShortList}
+use Rattle.rules.specs.declared.Denial.the-variants.{Refused, Faulty}
 use Rattle.rules.specs.declared.Loaded.the-variants as load
 use Rattle.rules.specs.declared.Stored.the-variants as store
-use Rattle.sound.specs.Check.{checkedBy, checked}
+use Rattle.layer.specs.declared.table.Found.{Found}
+use Rattle.layer.specs.declared.table.Found.the-variants as found
+use Rattle.layer.specs.declared.table.Found.the-variants.{At}
+use Rattle.sound.specs.Check.{nothing, judgedIs, checkedBy, checked}
 use Rattle.sound.specs.declared.Checked.{Checked}
 use Rattle.sound.specs.declared.Checked.the-variants.{Sound, No}
-use Rattle.sound.proofs.Answers.{is-false}
+use Rattle.sound.specs.declared.every.Judged.{Judged}
+use Rattle.sound.specs.declared.every.Judged.the-variants as judged
+use Rattle.sound.specs.declared.every.Judged.the-variants.{Breaks}
+use Rattle.sound.proofs.Counted.{badCounts, six-limits, counts-hold}
 use Rattle.theorems.proofs.RequestLaws.{common-none, common-passed, verdict-first}
+use Rattle.theorems.proofs.FaultLaws.{fault-none}
+use Rattle.theorems.proofs.SpotLaws.{sizesOf, There, spot-there}
 use Rattle.theorems.proofs.ByteLaws.{BookFits, sound-fits, sound-room, head-in}
 use Rattle.theorems.proofs.WriteLaws.{BookBytes, book-bytes, head-read, length-write, start-next, start-le}
-use Rattle.book.specs.Ready.{Loadable, Savable}
+use Rattle.book.specs.Ready.{Loadable, Savable, Judgeable, Counted}
+use Rattle.book.specs.Wrongs.{wrongIs}
+use Rattle.book.specs.declared.Wrong.{Wrong}
+use Rattle.book.specs.declared.Wrong.the-variants.{Nothing, First}
 use Rattle.book.proofs.Laws.{Cuts, parts, section-cut, sections-cut}
 
 -- the answer x is no (the code tests `!x`)
 pub no : {s x : Bool} → x ≡ s → not x ≡ true → s ≡ false
 no {x = x} a e = sym a ∙ not-true x e
 
--- ---- is_book
+-- ---- first_fault
 
 -- the mark's three bytes as one number
 pub mark-bytes : (bs : List ℕ) → 3 ≤ length bs → cell 3 0 bs ≡ getD bs 0 0 + 256 * getD bs 1 0 + 65536 * getD bs 2 0
@@ -53,37 +74,75 @@ mark-bytes bs l =
 pub mark-is : (bs : List ℕ) → 3 ≤ length bs → getD bs 0 0 ≡ 0x54 → getD bs 1 0 ≡ 0x4B → getD bs 2 0 ≡ 0x42 → cell 3 0 bs ≡ 0x424B54
 mark-is bs l a b c = omega (arith, mark-bytes bs l)
 
-pub marked : (bs : List ℕ) → Bytes bs → BookBytes bs → (getD bs 0 0 ≡ 0x54) × (getD bs 1 0 ≡ 0x4B) × (getD bs 2 0 ≡ 0x42)
-marked bs byte k =
-    let m : getD bs 0 0 + 256 * getD bs 1 0 + 65536 * getD bs 2 0 ≡ 0x424B54 = sym (mark-bytes bs (omega arith)) ∙ k .mark in
+pub marked : (bs : List ℕ) → Bytes bs → 3 ≤ length bs → cell 3 0 bs ≡ 0x424B54 → (getD bs 0 0 ≡ 0x54) × (getD bs 1 0 ≡ 0x4B) × (getD bs 2 0 ≡ 0x42)
+marked bs byte l k =
+    let m : getD bs 0 0 + 256 * getD bs 1 0 + 65536 * getD bs 2 0 ≡ 0x424B54 = sym (mark-bytes bs l) ∙ k in
     (omega (arith, byte 0, byte 1, byte 2), omega (arith, byte 0, byte 1, byte 2), omega (arith, byte 0, byte 1, byte 2))
 
--- a test that fails
-pub not-book : (bs : List ℕ) → (BookBytes bs → ⊥) → isBook bs ≡ false
-not-book bs fails = is-false (isBook bs) (λ h. fails (book-bytes bs h))
+-- the mode of a head that is read
+pub mode-read : (bs : List ℕ) {h : Head} → h ≡ headIn bs → h .mode .0 ≡ cell 1 5 bs
+unfolding headIn
+mode-read bs e = ap (λ (h : Head). h .mode .0) e
 
--- with the others passed, the rules decide
-pub book-sound : (bs : List ℕ) → 17 ≤ length bs → cell 3 0 bs ≡ 0x424B54 → cell 2 3 bs ≡ 1 → length bs ≡ start (headIn bs) 5 → isBook bs ≡ sound (read bs)
-unfolding isBook
-book-sound bs long mark version exact =
-    rw (
-      le-leb 17 (length bs) long,
-      eq-eqb (cell 3 0 bs) 0x424B54 mark,
-      eq-eqb (cell 2 3 bs) 1 version,
-      eq-eqb (length bs) (start (headIn bs) 5) exact,
-    )
+-- a count past its limit is found
+pub count-found : (h : Head) {c : Found} {i : ℕ} → c ≡ badCounts h → c ≡ At i → (i < 6) × (badCount h ≡ some (Count (getD countPlaces i 0)))
+unfolding badCount when
+count-found h {c = c} {i = i} e a = go (ltb k 6) refl (sym e ∙ a)
+  where
+    k : ℕ
+    k = first (λ c. not (inLimit c)) (limitsOf h)
+
+    go : (b : Bool) → ltb k 6 ≡ b → cond b (At k) found.Nothing ≡ At i → (i < 6) × (cond (ltb k (length (limitsOf h))) (some (Count (getD countPlaces k 0))) none ≡ some (Count (getD countPlaces i 0)))
+    go true l q =
+        let z : k ≡ i = cc in
+        (omega (arith, ltb-true k 6 l), rw (six-limits h, l) (ap (λ (n : ℕ). some (Count (getD countPlaces n 0))) z))
+    go false l q = let z : _≡_ {A = ℕ} 0 1 = cc in absurd (omega arith)
+
+-- and none is
+pub count-none : (h : Head) {c : Found} → c ≡ badCounts h → c ≡ found.Nothing → badCount h ≡ none
+unfolding badCount when
+count-none h {c = c} e a = go (ltb k 6) refl (sym e ∙ a)
+  where
+    k : ℕ
+    k = first (λ c. not (inLimit c)) (limitsOf h)
+
+    go : (b : Bool) → ltb k 6 ≡ b → cond b (At k) found.Nothing ≡ found.Nothing → cond (ltb k (length (limitsOf h))) (some (Count (getD countPlaces k 0))) none ≡ none
+    go true l q = let z : _≡_ {A = ℕ} 0 1 = cc in absurd (omega arith)
+    go false l q = rw (six-limits h, l)
+
+-- with all before them passed, the rules decide
+pub judgeable : (bs : List ℕ) (h : Head) {c : Found} → h ≡ headIn bs → h .mode .0 ≤ 1 → c ≡ badCounts h → c ≡ found.Nothing → length bs ≡ start h 5 → Judgeable bs h
+judgeable bs h e m f n exact = record { head = e; exact = exact; within = sym (counts-hold h m f (sym (ap nothing n))) }
+
+pub by-rules : (bs : List ℕ) (h : Head) {w : Wrong} → h ≡ headIn bs → fault bs ≡ ruleFault (headIn bs) (firstRule (rules (read bs)))
+    → w ≡ wrongIs (ruleFault h (firstRule (rules (read bs)))) → w ≡ wrongIs (fault bs)
+by-rules bs h e r w = w ∙ ap (λ (x : Head). wrongIs (ruleFault x (firstRule (rules (read bs))))) e ∙ ap wrongIs (sym r)
+
+-- ---- place_of
+
+-- the row at which a rule is broken lies within the book
+pub row-counted : (h : Head) {s : Spot} {k i : ℕ} → s ≡ Row k i → Counted h s → (k < 5) × (i < getD (counts h) k 0)
+row-counted h e c = subst (Counted h) e c
+
+pub row-within-book : (h : Head) (k i : ℕ) → k < 5 → i < getD (counts h) k 0 → start h k + i * getD widths k 0 ≤ start h 5
+row-within-book h k i l m =
+    omega (arith, start-next h k, start-le h (suc k), row-within i (getD (counts h) k 0) (getD widths k 0) m)
+
+pub row-place : (h : Head) {s : Spot} {k i a : ℕ} → s ≡ Row k i → a ≡ start h k → a + i * getD widths k 0 ≡ placeOf h s
+unfolding placeOf
+row-place h {k = k} {i = i} e p = ap (λ (n : ℕ). n + i * getD widths k 0) p ∙ sym (ap (placeOf h) e)
+
+pub missing-place : (h : Head) {s : Spot} → s ≡ Missing → 65535 ≡ placeOf h s
+unfolding placeOf
+missing-place h e = sym (ap (placeOf h) e)
+
+-- ---- rule_fault
 
 -- the book in the stretches between the starts is the one that is read
 pub read-parts : (bs : List ℕ) (h : Head) (a b c d : ℕ) → h ≡ headIn bs → length bs ≡ start h 5 → Cuts h a b c d → bookIn h (parts bs a b c d) ≡ read bs
 unfolding read
 read-parts bs h a b c d e exact cut =
     ap₂ bookIn e (sections-cut bs a b c d (exact ∙ ap (λ (k : Head). start k 5) e) (subst (λ (k : Head). Cuts k a b c d) e cut))
-
--- what the rules say x of the book in these stretches, they say of the bytes
-pub book-by-rules : (bs : List ℕ) (h : Head) (a b c d : ℕ) {x : Bool} → 17 ≤ length bs → cell 3 0 bs ≡ 0x424B54 → cell 2 3 bs ≡ 1
-    → h ≡ headIn bs → length bs ≡ start h 5 → Cuts h a b c d → x ≡ sound (bookIn h (parts bs a b c d)) → x ≡ isBook bs
-book-by-rules bs h a b c d long mark version e exact cut s =
-    s ∙ ap sound (read-parts bs h a b c d e exact cut) ∙ sym (book-sound bs long mark version (exact ∙ ap (λ (k : Head). start k 5) e))
 
 -- they hold the rows that the head counts
 pub parts-room : (bs : List ℕ) (h : Head) (a b c d : ℕ) → length bs ≡ start h 5 → Cuts h a b c d → Room h (parts bs a b c d)
@@ -95,6 +154,48 @@ parts-room bs h a b c d exact cut = record {
   resources = simp (length-take, length-drop) (omega arith);
 }
 
+-- what the rules say j of the book in these stretches, they say of the one that is read
+pub read-judged : (bs : List ℕ) (h : Head) (a b c d : ℕ) {j : Judged} → Judgeable bs h → Cuts h a b c d → j ≡ judgedIs (firstRule (rules (bookIn h (parts bs a b c d))))
+    → j ≡ judgedIs (firstRule (rules (read bs)))
+read-judged bs h a b c d k cut e = e ∙ ap (λ (x : Book). judgedIs (firstRule (rules x))) (read-parts bs h a b c d (k .head) (k .exact) cut)
+
+judged-none : (o : Option (Letter × Spot)) → judged.Sound ≡ judgedIs o → o ≡ none
+judged-none none e = refl
+judged-none (some r) e = let z : _≡_ {A = ℕ} 0 1 = cc in absurd (omega arith)
+
+judged-some : (o : Option (Letter × Spot)) {l : Letter} {s : Spot} → Breaks l s ≡ judgedIs o → o ≡ some (l, s)
+judged-some none e = let z : _≡_ {A = ℕ} 0 1 = cc in absurd (omega arith)
+judged-some (some r) {l} {s} e =
+    let a : l ≡ r .0 = cc in
+    let b : s ≡ r .1 = cc in
+    sym (ap₂ (λ (x : Letter) (y : Spot). some (x, y)) a b)
+
+counted : (h : Head) (t : Tables) (s : Spot) → There (sizesOf (bookIn h t)) s → Counted h s
+unfolding counts headOf
+counted h t s e = go s (subst (λ (x : Head). There (counts x) s) (head-in h t) (same s e))
+  where
+    same : (s : Spot) → There (sizesOf (bookIn h t)) s → There (counts (headOf (bookIn h t))) s
+    same s e = e
+
+    go : (s : Spot) → There (counts h) s → Counted h s
+    go (Row k i) e = e
+    go Missing e = tt
+
+-- a row that is told is one that the head counts
+pub spot-counted : (bs : List ℕ) (h : Head) (s : Spot) {j : Judged} {l : Letter} → Judgeable bs h → j ≡ judgedIs (firstRule (rules (read bs))) → j ≡ Breaks l s → Counted h s
+unfolding read
+spot-counted bs h s k e a =
+    subst (λ (x : Head). Counted x s) (sym (k .head)) (counted (headIn bs) (sections bs) s (spot-there (read bs) (judged-some (firstRule (rules (read bs))) (sym a ∙ e))))
+
+pub rule-nothing : (h : Head) (b : Book) {j : Judged} → j ≡ judgedIs (firstRule (rules b)) → j ≡ judged.Sound → Nothing ≡ wrongIs (ruleFault h (firstRule (rules b)))
+unfolding ruleFault
+rule-nothing h b e a = rw (judged-none (firstRule (rules b)) (sym a ∙ e))
+
+pub rule-first : (h : Head) (b : Book) {j : Judged} {l : Letter} {s : Spot} {at : ℕ} → j ≡ judgedIs (firstRule (rules b)) → j ≡ Breaks l s → at ≡ placeOf h s
+    → First (Rule l s at) ≡ wrongIs (ruleFault h (firstRule (rules b)))
+unfolding ruleFault
+rule-first h b {l = l} {s = s} e a p = rw (judged-some (firstRule (rules b)) (sym a ∙ e)) (ap (λ (n : ℕ). First (Rule l s n)) p)
+
 -- ---- section
 
 pub section-within : (bs : List ℕ) (k a b : ℕ) → isBook bs ≡ true → a ≡ start (headIn bs) k → b ≡ start (headIn bs) (k + 1) → (a ≤ b) × (b ≤ length bs)
@@ -103,18 +204,36 @@ section-within bs k a b e ea eb =
     let next : b ≡ start (headIn bs) (suc k) = eb ∙ ap (start (headIn bs)) (add-one k) in
     (omega (arith, start-next (headIn bs) k), omega (arith, start-le (headIn bs) (suc k)))
 
-pub section-unsound : (bs : List ℕ) (k : ℕ) → isBook bs ≡ false → part [] 12 ≡ sectionCall bs k
-unfolding sectionCall partBy refusalSection verdict
-section-unsound bs k e = rw e
+-- the bytes are a book where nothing is wrong, and else f is wrong first
+pub book-nothing : (bs : List ℕ) {w : Wrong} → w ≡ wrongIs (fault bs) → w ≡ Nothing → isBook bs ≡ true
+book-nothing bs e a = fault-none bs .0 (go (fault bs) (sym a ∙ e))
+  where
+    go : (o : Option Fault) → Nothing ≡ wrongIs o → o ≡ none
+    go none e = refl
+    go (some f) e = let z : _≡_ {A = ℕ} 0 1 = cc in absurd (omega arith)
 
-pub section-none : (bs : List ℕ) (k : ℕ) → isBook bs ≡ true → 5 ≤ k → part [] 1 ≡ sectionCall bs k
-unfolding sectionCall partBy refusalSection verdict
-section-none bs k e l = rw (e, le-ltb k 5 l)
+fault-first : (bs : List ℕ) {w : Wrong} {f : Fault} → w ≡ wrongIs (fault bs) → w ≡ First f → fault bs ≡ some f
+fault-first bs {f = f} e a = go (fault bs) (sym a ∙ e)
+  where
+    go : (o : Option Fault) → First f ≡ wrongIs o → o ≡ some f
+    go none e = let z : _≡_ {A = ℕ} 0 1 = cc in absurd (omega arith)
+    go (some g) e = cc
+
+-- what is wrong first, in the cells
+pub section-broken : (bs : List ℕ) (k : ℕ) {w : Wrong} {f : Fault} {n at : ℕ} → w ≡ wrongIs (fault bs) → w ≡ First f → n ≡ faultNumber f → at ≡ faultPlace f
+    → part [] n at ≡ sectionCall bs k
+unfolding sectionCall partBy refusalSection firstSome faultyBy
+section-broken bs k e a en ep = rw (fault-first bs e a) (ap₂ (part []) en ep)
+
+pub section-none : (bs : List ℕ) (k : ℕ) → isBook bs ≡ true → 5 ≤ k → part [] 1 0 ≡ sectionCall bs k
+unfolding sectionCall partBy refusalSection firstSome faultyBy when
+section-none bs k e l = rw (fault-none bs .1 e, le-ltb k 5 l)
 
 pub section-given : (bs : List ℕ) (k a b : ℕ) → isBook bs ≡ true → k < 5 → a ≡ start (headIn bs) k → b ≡ start (headIn bs) (k + 1)
-    → part (take (b - a) (drop a bs)) 0 ≡ sectionCall bs k
-unfolding sectionCall partBy refusalSection verdict
-section-given bs k a b e l ea eb = rw (e, lt-ltb k 5 l) (ap (λ (s : List ℕ). part s 0) (section-cut bs k a b ea (eb ∙ ap (start (headIn bs)) (add-one k))))
+    → part (take (b - a) (drop a bs)) 0 0 ≡ sectionCall bs k
+unfolding sectionCall partBy refusalSection firstSome faultyBy when
+section-given bs k a b e l ea eb =
+    rw (fault-none bs .1 e, lt-ltb k 5 l) (ap (λ (s : List ℕ). part s 0 0) (section-cut bs k a b ea (eb ∙ ap (start (headIn bs)) (add-one k))))
 
 -- ---- read
 
@@ -127,17 +246,17 @@ loadable bs h t e s k =
       room = subst (λ (x : Head). Room x t) (head-read bs ∙ sym e) (sound-room (read bs) t (b .sound′) s);
     }
 
-pub read-short : (bs : List ℕ) (t : Tables) → short t ≡ true → loading (load.No ShortTable) t ≡ readCall bs t
-unfolding readCall loadBy refusalRead verdict
+pub read-short : (bs : List ℕ) (t : Tables) → short t ≡ true → loading (load.No (Refused ShortTable)) t ≡ readCall bs t
+unfolding readCall loadBy refusalRead firstSome when
 read-short bs t s = rw s
 
-pub read-unsound : (bs : List ℕ) (t : Tables) → short t ≡ false → isBook bs ≡ false → loading (load.No Unsound) t ≡ readCall bs t
-unfolding readCall loadBy refusalRead verdict
-read-unsound bs t s e = rw (s, e)
+pub read-broken : (bs : List ℕ) (t : Tables) {w : Wrong} {f : Fault} → short t ≡ false → w ≡ wrongIs (fault bs) → w ≡ First f → loading (load.No (Faulty f)) t ≡ readCall bs t
+unfolding readCall loadBy refusalRead firstSome when faultyBy
+read-broken bs t s e a = rw (s, fault-first bs e a)
 
 pub read-given : (bs : List ℕ) (h : Head) (t u : Tables) → short t ≡ false → isBook bs ≡ true → h ≡ headIn bs → u ≡ laid (read bs) t → loading (load.Is h) u ≡ readCall bs t
-unfolding readCall loadBy refusalRead verdict
-read-given bs h t u s e eh eu = rw (s, e) (ap₂ (λ (x : Head) (y : Tables). loading (load.Is x) y) eh eu)
+unfolding readCall loadBy refusalRead firstSome when faultyBy
+read-given bs h t u s e eh eu = rw (s, fault-none bs .1 e) (ap₂ (λ (x : Head) (y : Tables). loading (load.Is x) y) eh eu)
 
 -- ---- write
 

@@ -2,26 +2,30 @@
 -- Assumes nothing.
 use Prim.Native.Nat.{ℕ, _≤_}
 use mathlib.Core.Path.{_≡_, refl, sym, ap, ap₂, subst, _∙_}
-use mathlib.Core.Bool.{true, false, not}
+use mathlib.Core.Bool.{Bool, true, false}
 use mathlib.Core.List.{List, [], _∷_}
 use mathlib.Core.Option.{Option, some, none}
 use native.Mathlib.Omega.{arith}
 use lib.Dec.{ltb}
 use lib.ListN.{length, take}
-use borrow.Author.Tests.{not-false}
 use Rattle.rows.specs.Number.{stored}
 use Rattle.rows.proofs.Laws.{stored-first}
 use Rattle.rules.specs.Book.{Book}
 use Rattle.rules.specs.Sound.{sound}
-use Rattle.rules.specs.Bytes.{Bytes, Tables, headIn, start, read, isBook, bookIn, laid, write}
-use Rattle.rules.specs.Refusals.{short, refusalRead, refusalWrite}
+use Rattle.rules.specs.Tests.{when, firstSome}
+use Rattle.rules.specs.Bytes.{Bytes, Tables, headIn, start, read, fault, isBook, bookIn, laid, write}
+use Rattle.rules.specs.Refusals.{short, faultyBy, refusalRead, refusalWrite}
 use Rattle.rules.specs.Calls.{loading, loadBy, readCall, writing, writeBy, writeCall}
 use Rattle.rules.specs.declared.Head.{Head}
 use Rattle.rules.specs.declared.Refusal.{Refusal}
-use Rattle.rules.specs.declared.Refusal.the-variants.{ShortTable, Unsound, ShortList}
+use Rattle.rules.specs.declared.Refusal.the-variants.{ShortTable, ShortList}
+use Rattle.rules.specs.declared.Denial.{Denial}
+use Rattle.rules.specs.declared.Denial.the-variants.{Refused}
+use Rattle.rules.specs.declared.Fault.{Fault}
 use Rattle.rules.specs.declared.Loaded.the-variants as load
 use Rattle.rules.specs.declared.Stored.the-variants as store
-use Rattle.theorems.proofs.RequestLaws.{verdict-none, common-none}
+use Rattle.theorems.proofs.RequestLaws.{common-none}
+use Rattle.theorems.proofs.FaultLaws.{fault-none}
 use Rattle.theorems.proofs.ByteLaws.{sound-fits, sound-book-laid, sound-room, short-laid, head-in}
 use Rattle.theorems.proofs.WriteLaws.{BookBytes, book-bytes, head-write, is-book, sound-read-write, write-read, read-laid}
 use Rattle.book.proofs.Answers.{read-given, write-given}
@@ -55,16 +59,21 @@ pub record Loads (bs : List ℕ) (t : Tables) (h : Head) : Type 0 where
   pub head : h ≡ headIn bs
   pub tables′ : readCall bs t .tables ≡ laid (read bs) t
 
+passed : (s : Bool) (o : Option Fault) → firstSome (when s (Refused ShortTable) ∷ faultyBy o ∷ []) ≡ none → (s ≡ false) × (o ≡ none)
+unfolding firstSome when faultyBy
+passed true o e = let z : _≡_ {A = ℕ} 0 1 = cc in absurd (omega arith)
+passed false (some f) e = let z : _≡_ {A = ℕ} 0 1 = cc in absurd (omega arith)
+passed false none e = (refl, refl)
+
 pub loads : (bs : List ℕ) (t : Tables) (h : Head) → readCall bs t .answer ≡ load.Is h → Loads bs t h
 unfolding readCall loadBy refusalRead
 loads bs t h = go (refusalRead t bs) refl
   where
-    go : (o : Option Refusal) → refusalRead t bs ≡ o → loadBy o bs t .answer ≡ load.Is h → Loads bs t h
+    go : (o : Option Denial) → refusalRead t bs ≡ o → loadBy o bs t .answer ≡ load.Is h → Loads bs t h
     go (some r) e a = let z : _≡_ {A = ℕ} 0 1 = cc in absurd (omega arith)
     go none e a =
-        let (l, e1) = verdict-none ShortTable (short t) ((Unsound, not (isBook bs)) ∷ []) e in
-        let (k, e2) = verdict-none Unsound (not (isBook bs)) [] e1 in
-        record { long = l; book = not-false (isBook bs) k; head = cc; tables′ = ap (λ (o : Option Refusal). loadBy o bs t .tables) e }
+        let (l, b) = passed (short t) (fault bs) e in
+        record { long = l; book = fault-none bs .0 b; head = cc; tables′ = ap (λ (o : Option Denial). loadBy o bs t .tables) e }
 
 -- ---- reading what was written
 

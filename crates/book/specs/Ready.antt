@@ -1,11 +1,26 @@
--- What the copies of a book's sections (RULES 9.3) need.
+-- What the rules on a book's sections (RULES 9.3), the place of a row, and the copies of sections need.
 -- Assumes nothing.
 use Prim.Native.Nat.{ℕ, _≤_, _<_}
 use mathlib.Core.Path.{_≡_}
+use mathlib.Core.Bool.{true}
 use mathlib.Core.List.{List}
-use lib.ListN.{length}
-use Rattle.rules.specs.Bytes.{Tables, headIn, start, Room}
+use lib.ListN.{length, getD}
+use Rattle.rules.specs.Bytes.{Tables, headIn, counts, start, Room}
 use Rattle.rules.specs.declared.Head.{Head}
+use Rattle.rules.specs.declared.Spot.{Spot}
+use Rattle.rules.specs.declared.Spot.the-variants.{Row, Missing}
+use Rattle.sound.specs.Check.{countsOf}
+
+-- bytes of the exact length that their head h gives, whose mode and counts hold
+pub record Judgeable (bs : List ℕ) (h : Head) : Type 0 where
+  pub head : h ≡ headIn bs
+  pub exact : length bs ≡ start h 5
+  pub within : countsOf h ≡ true
+
+-- a row that the head counts
+abbrev pub Counted : Head → Spot → Type 0
+Counted h (Row k i) = (k < 5) × (i < getD (counts h) k 0)
+Counted h Missing = Unit {0}
 
 -- bytes of the exact length that their head h gives, and tables with room for their rows
 pub record Loadable (bs : List ℕ) (h : Head) (t : Tables) : Type 0 where

@@ -1,4 +1,7 @@
 // The book as bytes: sections, reading and writing. The five tables are iv, it, ov, ot, rs: inner vertices and tokens, outer vertices and tokens, resources.
+use layer::table::Found;
+use rules::Denial;
+use rules::Fault;
 use rules::Head;
 use rules::InnerTokens;
 use rules::InnerVertices;
@@ -9,19 +12,36 @@ use rules::OuterTokens;
 use rules::OuterVertices;
 use rules::Refusal;
 use rules::Resources;
+use rules::Spot;
 use rules::Stored;
 use rules::WIDTHS;
+use rules::fault_number;
+use rules::fault_place;
 use sound::Checked;
 use sound::check;
-use sound::every::all_rules;
+use sound::every::Judged;
+use sound::every::bad_count;
+use sound::every::first_rule;
 use sound::long_enough;
 ghost use mathlib.Core.Path.{_≡_};
 ghost use Prim.Native.Nat.{_+_, _*_, _≤_, _<_};
 ghost use lib.ListN.{length, take, getD};
 ghost use Rattle.rows.specs.Number.{stored};
-ghost use Rattle.book.specs.Ready.{Loadable, Savable};
+ghost use Rattle.book.specs.Ready.{Loadable, Savable, Judgeable, Counted};
+ghost use Rattle.book.specs.Wrongs.{wrongIs};
+ghost use Rattle.rules.specs.Tests.{firstRule};
+ghost use Rattle.rules.specs.Sound.{rules};
 ghost use Rattle.rules.specs.Calls.{sectionCall, readCall, writeCall, part, loading, writing};
-ghost use Rattle.rules.specs.Bytes.{isBook, tables, headIn, header, counts, start, laid, read, bookIn, write};
+ghost use Rattle.rules.specs.Bytes.{fault, ruleFault, placeOf, tables, headIn, header, counts, start, laid, read, bookIn, write};
+
+// What is wrong with bytes: RULES 9.10.
+pub enum Wrong {
+    Nothing,
+    First(Fault),
+}
+
+// Where each count starts in the header.
+const COUNT_PLACES: [usize; 6] = [6, 7, 9, 11, 13, 15];
 
 // The head that a book's first 17 bytes give.
 pub fn head_in(bytes: &[u8]) -> Head
@@ -153,42 +173,82 @@ fn save(h: Head, iv: &[u8], it: &[u8], ov: &[u8], ot: &[u8], rs: &[u8], buffer: 
     put(rs, start_of(h, 5) - d, buffer, d);
 }
 
-// Whether the bytes are a sound book's.
-pub fn is_book(bytes: &[u8]) -> bool
-    ensures { λ r. ⌜ r ≡ isBook (now (bytes .entry)) ⌝ }
+// Where the row starts at which a rule is broken; a missing vertex has none.
+fn place_of(h: Head, s: Spot) -> usize
+    requires { ⌜ Counted h s ⌝ }
+    ensures { λ r. ⌜ r ≡ placeOf h s ⌝ }
 {
-    if bytes.len() < 17 {
-        return false;
+    match s {
+        Spot::Row(k, i) => start_of(h, k) + i * WIDTHS[k],
+        Spot::Missing => 65535,
     }
-    if bytes[0] != 0x54 || bytes[1] != 0x4B || bytes[2] != 0x42 || rows::get2(bytes, 3) != 1 {
-        return false;
-    }
-    let h = head_in(bytes);
-    if bytes.len() != start_of(h, 5) {
-        return false;
-    }
+}
+
+// The first rule that the book in the bytes breaks, where header and length are right.
+fn rule_fault(bytes: &[u8], h: Head) -> Wrong
+    requires { ⌜ Judgeable (now bytes) h ⌝ }
+    ensures { λ r. ⌜ r ≡ wrongIs (ruleFault h (firstRule (rules (read (now (bytes .entry)))))) ⌝ }
+{
     let a = start_of(h, 1);
     let b = start_of(h, 2);
     let c = start_of(h, 3);
     let d = start_of(h, 4);
-    all_rules(
+    let j = first_rule(
         h,
         &bytes[17..a],
         &bytes[a..b],
         &bytes[b..c],
         &bytes[c..d],
         &bytes[d..],
-    )
+    );
+    match j {
+        Judged::Sound => Wrong::Nothing,
+        Judged::Breaks(l, s) => Wrong::First(Fault::Rule(l, s, place_of(h, s))),
+    }
 }
 
-// A section of a book, "a part of the very bytes that were lent" (RULES 9.8); the refusal's number, or 0, goes to the cell.
-pub fn section<'a>(bytes: &'a [u8], k: usize, cell: &mut u16) -> &'a [u8]
-    ensures { λ r. ⌜ part (now r) (now (cell .exit)) ≡ sectionCall (now (bytes .entry)) k ⌝ }
+// The first fault of bytes, in the order of RULES 9.10.
+pub fn first_fault(bytes: &[u8]) -> Wrong
+    ensures { λ r. ⌜ r ≡ wrongIs (fault (now (bytes .entry))) ⌝ }
 {
-    if !is_book(bytes) {
-        *cell = 12;
-        return &bytes[0..0];
+    if bytes.len() < 17 {
+        return Wrong::First(Fault::Length(bytes.len()));
     }
+    if bytes[0] != 0x54 || bytes[1] != 0x4B || bytes[2] != 0x42 {
+        return Wrong::First(Fault::Mark);
+    }
+    if rows::get2(bytes, 3) != 1 {
+        return Wrong::First(Fault::Version);
+    }
+    let h = head_in(bytes);
+    if h.mode.0 > 1 {
+        return Wrong::First(Fault::Mode);
+    }
+    let c = bad_count(h);
+    match c {
+        Found::At(i) => return Wrong::First(Fault::Count(COUNT_PLACES[i])),
+        Found::Nothing => {}
+    }
+    if bytes.len() != start_of(h, 5) {
+        return Wrong::First(Fault::Length(bytes.len()));
+    }
+    rule_fault(bytes, h)
+}
+
+// A section of a book, "a part of the very bytes that were lent" (RULES 9.8); the refusal's number and place, or 0 and 0, go to the cells.
+pub fn section<'a>(bytes: &'a [u8], k: usize, cell: &mut u16, place: &mut usize) -> &'a [u8]
+    ensures { λ r. ⌜ part (now r) (now (cell .exit)) (now (place .exit)) ≡ sectionCall (now (bytes .entry)) k ⌝ }
+{
+    let w = first_fault(bytes);
+    match w {
+        Wrong::First(f) => {
+            *cell = fault_number(f);
+            *place = fault_place(f);
+            return &bytes[0..0];
+        }
+        Wrong::Nothing => {}
+    }
+    *place = 0;
     if k >= 5 {
         *cell = 1;
         return &bytes[0..0];
@@ -212,10 +272,12 @@ pub fn read(
     ensures { λ r. ⌜ loading r (tables (now (iv .exit)) (now (it .exit)) (now (ov .exit)) (now (ot .exit)) (now (rs .exit))) ≡ readCall (now (bytes .entry)) (tables (now (iv .entry)) (now (it .entry)) (now (ov .entry)) (now (ot .entry)) (now (rs .entry))) ⌝ }
 {
     if !long_enough(iv, it, ov, ot, rs) {
-        return Loaded::No(Refusal::ShortTable);
+        return Loaded::No(Denial::Refused(Refusal::ShortTable));
     }
-    if !is_book(bytes) {
-        return Loaded::No(Refusal::Unsound);
+    let w = first_fault(bytes);
+    match w {
+        Wrong::First(f) => return Loaded::No(Denial::Faulty(f)),
+        Wrong::Nothing => {}
     }
     let h = head_in(bytes);
     load(bytes, h, iv, it, ov, ot, rs);

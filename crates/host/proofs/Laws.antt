@@ -1,20 +1,25 @@
 -- What the C interface answers, from what the calls below it answer: each law is one way out of a call.
 -- Assumes nothing.
 use Prim.Native.Nat.{ℕ, zero, suc, _≤_, _<_}
-use mathlib.Core.Path.{_≡_, refl, sym, ap, _∙_}
-use mathlib.Core.Bool.{Bool, true, false}
-use mathlib.Core.List.{List}
+use mathlib.Core.Path.{_≡_, refl, sym, ap, ap₂, _∙_}
+use mathlib.Core.Bool.{Bool, true, false, not}
+use mathlib.Core.List.{List, [], _∷_}
 use mathlib.Core.Option.{Option, some, none}
 use native.Mathlib.Omega.{arith}
 use lib.Dec.{ltb}
 use lib.ListN.{length}
-use borrow.Author.Tests.{lt-ltb, le-ltb, ltb-true, ltb-false}
+use borrow.Author.Tests.{lt-ltb, le-ltb, ltb-true}
 use Rattle.rows.specs.Number.{stored}
-use Rattle.rules.specs.Bytes.{Tables, headIn, start, isBook, bookIn}
-use Rattle.rules.specs.Refusals.{number, common, verdict}
-use Rattle.rules.specs.Calls.{Part, part, sectionCall, Load, loading, readCall, Write, writing, writeCall}
+use Rattle.rules.specs.Tests.{when, firstSome}
+use Rattle.rules.specs.Bytes.{Tables, headIn, start, fault, isBook, bookIn}
+use Rattle.rules.specs.Refusals.{number, denialNumber, denialPlace, common, verdict, faultyBy, refusalSection}
+use Rattle.rules.specs.Calls.{Part, part, partBy, sectionCall, Load, loading, readCall, Write, writing, writeCall}
 use Rattle.rules.specs.declared.Head.{Head}
 use Rattle.rules.specs.declared.Refusal.{Refusal}
+use Rattle.rules.specs.declared.Refusal.the-variants.{NoSuch}
+use Rattle.rules.specs.declared.Denial.{Denial}
+use Rattle.rules.specs.declared.Denial.the-variants.{Refused}
+use Rattle.rules.specs.declared.Fault.{Fault}
 use Rattle.rules.specs.declared.Loaded.{Loaded}
 use Rattle.rules.specs.declared.Loaded.the-variants as loaded
 use Rattle.rules.specs.declared.Stored.{Stored}
@@ -22,8 +27,9 @@ use Rattle.rules.specs.declared.Stored.the-variants as written
 use Rattle.sound.specs.Check.{checkedBy, checked}
 use Rattle.sound.specs.declared.Checked.{Checked}
 use Rattle.sound.specs.declared.Checked.the-variants.{Sound, No}
-use Rattle.book.proofs.Answers.{section-unsound, section-none}
+use Rattle.theorems.proofs.FaultLaws.{fault-none}
 use Rattle.host.specs.Answers.{headLength, headFrom, headNumbers, told, checkAnswer, answered, stretchBy, sectionAnswer, loadedAs, readBy, readAnswer, writtenAs, writeBy, writeAnswer}
+use Rattle.host.proofs.PlaceLaws.{fault-number}
 
 -- ---- check
 
@@ -57,32 +63,30 @@ check-passed l t n eh ek is = sym (ap toldBy is) ∙ check-told l t n eh ek
 -- ---- section
 
 -- a cell of 0 means that the bytes are a book and that it has this section
-pub section-passed : (bs : List ℕ) (k : ℕ) {s : List ℕ} {n : ℕ} → part s n ≡ sectionCall bs k → n ≡ 0 → (isBook bs ≡ true) × (k < 5)
-section-passed bs k {n = n} p e = go (isBook bs) (ltb k 5) refl refl
+pub section-passed : (bs : List ℕ) (k : ℕ) {s : List ℕ} {n at : ℕ} → part s n at ≡ sectionCall bs k → n ≡ 0 → (isBook bs ≡ true) × (k < 5)
+unfolding sectionCall partBy refusalSection firstSome faultyBy when
+section-passed bs k {n = n} p e = go (fault bs) (ltb k 5) refl refl (sym e ∙ ap (λ (x : Part). x .cell) p)
   where
-    given : n ≡ sectionCall bs k .cell
-    given = ap (λ (x : Part). x .cell) p
+    go : (o : Option Fault) (b : Bool) → fault bs ≡ o → ltb k 5 ≡ b → 0 ≡ partBy (firstSome (faultyBy o ∷ when (not b) (Refused NoSuch) ∷ [])) bs k .cell → (isBook bs ≡ true) × (k < 5)
+    go (some f) b eo eb z = absurd (omega (arith, z, fault-number f))
+    go none false eo eb z = absurd (omega (arith, z))
+    go none true eo eb z = (fault-none bs .0 eo, ltb-true k 5 eb)
 
-    go : (b c : Bool) → isBook bs ≡ b → ltb k 5 ≡ c → (isBook bs ≡ true) × (k < 5)
-    go false c eb ec = absurd (omega (arith, given, e, ap (λ (x : Part). x .cell) (section-unsound bs k eb)))
-    go true false eb ec = absurd (omega (arith, given, e, ap (λ (x : Part). x .cell) (section-none bs k eb (ltb-false k 5 ec))))
-    go true true eb ec = (eb, ltb-true k 5 ec)
-
-pub section-given : (bs : List ℕ) (k b m : ℕ) {s : List ℕ} {n a : ℕ} {h : Head} → part s n ≡ sectionCall bs k → n ≡ 0 → h ≡ headIn bs → a ≡ start h k
-    → answered 0 a (length s) ≡ sectionAnswer bs k b m
+pub section-given : (bs : List ℕ) (k b m : ℕ) {s : List ℕ} {n at a : ℕ} {h : Head} → part s n at ≡ sectionCall bs k → n ≡ 0 → h ≡ headIn bs → a ≡ start h k
+    → answered 0 a (length s) at ≡ sectionAnswer bs k b m
 unfolding sectionAnswer stretchBy
 section-given bs k b m p e eh ea =
-    (λ i. answered 0 ((ea ∙ ap (λ (x : Head). start x k) eh) i) (length (p i .stretch)))
-    ∙ ap (stretchBy bs k b m) (sym e ∙ ap (λ (x : Part). x .cell) p)
+    (λ i. answered 0 ((ea ∙ ap (λ (x : Head). start x k) eh) i) (length (p i .stretch)) (p i .place))
+    ∙ ap (stretchBy bs k b m (sectionCall bs k .place)) (sym e ∙ ap (λ (x : Part). x .cell) p)
 
-stretch-none : (bs : List ℕ) (k a m n : ℕ) → (n ≡ 0 → ⊥) → answered n a m ≡ stretchBy bs k a m n
+stretch-none : (bs : List ℕ) (k a m at n : ℕ) → (n ≡ 0 → ⊥) → answered n a m at ≡ stretchBy bs k a m at n
 unfolding stretchBy
-stretch-none bs k a m zero ne = absurd (ne refl)
-stretch-none bs k a m (suc n) ne = refl
+stretch-none bs k a m at zero ne = absurd (ne refl)
+stretch-none bs k a m at (suc n) ne = refl
 
-pub section-refused : (bs : List ℕ) (k a m : ℕ) {s : List ℕ} {n : ℕ} → part s n ≡ sectionCall bs k → (n ≡ 0 → ⊥) → answered n a m ≡ sectionAnswer bs k a m
+pub section-refused : (bs : List ℕ) (k a m : ℕ) {s : List ℕ} {n at : ℕ} → part s n at ≡ sectionCall bs k → (n ≡ 0 → ⊥) → answered n a m at ≡ sectionAnswer bs k a m
 unfolding sectionAnswer
-section-refused bs k a m {n = n} p ne = stretch-none bs k a m n ne ∙ ap (λ (x : Part). stretchBy bs k a m (x .cell)) p
+section-refused bs k a m {n = n} {at = at} p ne = stretch-none bs k a m at n ne ∙ ap (λ (x : Part). stretchBy bs k a m (x .place) (x .cell)) p
 
 -- ---- read
 
@@ -90,21 +94,21 @@ read-by : (bs l : List ℕ) (t : Tables) {a : Loaded} {u : Tables} → headLengt
 unfolding readAnswer
 read-by bs l t n p = rw (le-ltb (length l) headLength n) (ap (λ (x : Load). readBy (x .answer) l (x .tables)) p)
 
-pub read-short : (bs l : List ℕ) (t : Tables) → length l < headLength → loadedAs 13 l t ≡ readAnswer bs l t
+pub read-short : (bs l : List ℕ) (t : Tables) → length l < headLength → loadedAs 13 l t 0 ≡ readAnswer bs l t
 unfolding readAnswer
 read-short bs l t n = rw (lt-ltb (length l) headLength n)
 
-pub read-refused : (bs l : List ℕ) (t : Tables) {a : Loaded} {u : Tables} {n : Refusal} {r : ℕ} → headLength ≤ length l → loading a u ≡ readCall bs t → a ≡ loaded.No n
-    → r ≡ number n → loadedAs r l u ≡ readAnswer bs l t
+pub read-refused : (bs l : List ℕ) (t : Tables) {a : Loaded} {u : Tables} {d : Denial} {r at : ℕ} → headLength ≤ length l → loading a u ≡ readCall bs t
+    → a ≡ loaded.No d → r ≡ denialNumber d → at ≡ denialPlace d → loadedAs r l u at ≡ readAnswer bs l t
 unfolding readBy
-read-refused bs l t {u = u} n p is er =
-    ap (λ (x : ℕ). loadedAs x l u) er ∙ sym (ap (λ (x : Loaded). readBy x l u) is) ∙ read-by bs l t n p
+read-refused bs l t {u = u} n p is er ep =
+    ap₂ (λ (x y : ℕ). loadedAs x l u y) er ep ∙ sym (ap (λ (x : Loaded). readBy x l u) is) ∙ read-by bs l t n p
 
 pub read-given : (bs l : List ℕ) (t : Tables) {a : Loaded} {u : Tables} {h : Head} {m : List ℕ} → headLength ≤ length l → loading a u ≡ readCall bs t → a ≡ loaded.Is h
-    → m ≡ stored 0 (headNumbers h) l → loadedAs 0 m u ≡ readAnswer bs l t
+    → m ≡ stored 0 (headNumbers h) l → loadedAs 0 m u 0 ≡ readAnswer bs l t
 unfolding readBy
 read-given bs l t {u = u} n p is em =
-    ap (λ (x : List ℕ). loadedAs 0 x u) em ∙ sym (ap (λ (x : Loaded). readBy x l u) is) ∙ read-by bs l t n p
+    ap (λ (x : List ℕ). loadedAs 0 x u 0) em ∙ sym (ap (λ (x : Loaded). readBy x l u) is) ∙ read-by bs l t n p
 
 -- ---- write
 

@@ -1,4 +1,4 @@
--- RULES 7.3 in C (8.9): a call whose result is not 0 leaves all that it was lent as it was, its cells too.
+-- RULES 7.3 in C (8.9): a call whose result is not 0 leaves all that it was lent as it was, its cells too, but for a place, which is told.
 -- Assumes nothing.
 use Prim.Native.Nat.{ℕ, zero, suc}
 use mathlib.Core.Path.{_≡_, refl, sym, ap, _∙_}
@@ -35,9 +35,9 @@ module _ {X : Type 0} (result : X → ℕ) (lent : ℕ → X) where
   left-short back true x f ne = sym (ap lent (back 13))
   left-short back false x f ne = f ne
 
-  -- an answer by what a call below left
-  left-by : {C : Type 0} (by : C → X) {c d : C} → c ≡ d → by d ≡ lent (result (by d)) → by c ≡ lent (result (by c))
-  left-by by p e = ap by p ∙ e ∙ sym (ap (λ x. lent (result (by x))) p)
+-- an answer by what a call below left, with all K that it tells
+left-by : {X K C : Type 0} (told : X → K) (lent : K → X) (by : C → X) {c d : C} → c ≡ d → by d ≡ lent (told (by d)) → by c ≡ lent (told (by c))
+left-by told lent by p e = ap by p ∙ e ∙ sym (ap (λ x. lent (told (by x))) p)
 
 pub c-change-refused : (q : Request) (l : List ℕ) (t : Tables) (list : List ℕ) (n : ℕ)
     → let a = changeAnswer q l t list n in (a .told .result ≡ 0 → ⊥) → a ≡ changedAs (a .told .result) l t list n
@@ -75,19 +75,23 @@ c-serve-refused requests l t answers list n =
         left-by (λ (x : Serves). x .told .result) (λ k. servedAs k l t answers list n) (λ (x : Service). serveBy x l n)
         (serve-refused requests (headFrom l) t answers list r e) refl
 
-pub c-read-refused : (bs l : List ℕ) (t : Tables) → let a = readAnswer bs l t in (a .result ≡ 0 → ⊥) → a ≡ loadedAs (a .result) l t
+pub c-read-refused : (bs l : List ℕ) (t : Tables) → let a = readAnswer bs l t in (a .result ≡ 0 → ⊥) → a ≡ loadedAs (a .result) l t (a .place)
 unfolding readAnswer readBy
-c-read-refused bs l t =
-    left-short (λ (x : Loads). x .result) (λ k. loadedAs k l t) (λ k. refl) (ltb (length l) headLength) (readBy (c .answer) l (c .tables)) (go (c .answer) refl)
+c-read-refused bs l t = short (ltb (length l) headLength)
   where
     c : Load
     c = readCall bs t
 
     go : (a : Loaded) → c .answer ≡ a → (readBy (c .answer) l (c .tables) .result ≡ 0 → ⊥)
-        → readBy (c .answer) l (c .tables) ≡ loadedAs (readBy (c .answer) l (c .tables) .result) l t
+        → readBy (c .answer) l (c .tables) ≡ loadedAs (readBy (c .answer) l (c .tables) .result) l t (readBy (c .answer) l (c .tables) .place)
     go (loaded.Is h) e ne = absurd (ne (ap (λ (a : Loaded). readBy a l (c .tables) .result) e))
-    go (loaded.No r) e ne =
-        left-by (λ (x : Loads). x .result) (λ k. loadedAs k l t) (λ (x : Load). readBy (x .answer) l (x .tables)) (read-refused bs t r e) refl
+    go (loaded.No d) e ne =
+        left-by {K = ℕ × ℕ} (λ (x : Loads). (x .result, x .place)) (λ k. loadedAs (k .0) l t (k .1)) (λ (x : Load). readBy (x .answer) l (x .tables)) (read-refused bs t d e) refl
+
+    short : (z : Bool)
+        → let a = cond z (loadedAs 13 l t 0) (readBy (c .answer) l (c .tables)) in (a .result ≡ 0 → ⊥) → a ≡ loadedAs (a .result) l t (a .place)
+    short true ne = refl
+    short false ne = go (c .answer) refl ne
 
 pub c-write-refused : (l : List ℕ) (t : Tables) (buffer : List ℕ) (n : ℕ)
     → let a = writeAnswer l t buffer n in (a .result ≡ 0 → ⊥) → a ≡ writtenAs (a .result) buffer n
@@ -128,10 +132,13 @@ c-open-refused u r l t list i o =
     go (opened.No k) e ne =
         left-by (λ (x : Opens). x .result) (λ k. openedAs k list i o) (λ (x : Shown). openBy (x .answer) (x .list) i o) (open-refused u r (headFrom l) t list k e) refl
 
-pub c-section-refused : (bs : List ℕ) (k s n : ℕ) → let a = sectionAnswer bs k s n in (a .result ≡ 0 → ⊥) → a ≡ answered (a .result) s n
+pub c-section-refused : (bs : List ℕ) (k s n : ℕ) → let a = sectionAnswer bs k s n in (a .result ≡ 0 → ⊥) → a ≡ answered (a .result) s n (a .place)
 unfolding sectionAnswer stretchBy
 c-section-refused bs k s n = go (sectionCall bs k .cell)
   where
-    go : (c : ℕ) → (stretchBy bs k s n c .result ≡ 0 → ⊥) → stretchBy bs k s n c ≡ answered (stretchBy bs k s n c .result) s n
+    at : ℕ
+    at = sectionCall bs k .place
+
+    go : (c : ℕ) → (stretchBy bs k s n at c .result ≡ 0 → ⊥) → stretchBy bs k s n at c ≡ answered (stretchBy bs k s n at c .result) s n (stretchBy bs k s n at c .place)
     go zero ne = absurd (ne refl)
     go (suc c) ne = refl

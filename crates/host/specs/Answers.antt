@@ -1,5 +1,5 @@
 -- The C interface's answers, from the calls' definitions: numbers only. RULES 8.9: the refusal's number is the result, and the cells, whose content at entry
--- comes last among the arguments, stay as they were.
+-- comes last among the arguments, stay as they were; but a cell for the place takes what is told, whatever it held.
 -- Assumes nothing.
 use Prim.Native.Nat.{ℕ, zero, suc, _+_, _*_}
 use mathlib.Core.Bool.{cond}
@@ -10,7 +10,7 @@ use lib.ListN.{length, getD}
 use Rattle.rows.specs.Number.{cell, stored}
 use Rattle.sets.specs.Words.{bytes}
 use Rattle.rules.specs.Bytes.{Tables, bookIn, head, headIn, start}
-use Rattle.rules.specs.Refusals.{number, viewNumber, viewTold, common, verdict, Request, inserts}
+use Rattle.rules.specs.Refusals.{number, viewNumber, viewTold, denialNumber, denialPlace, common, verdict, Request, inserts}
 use Rattle.rules.specs.Calls.{sectionCall, readCall, writeCall, Change, change, viewCall, openCall, Service, serveCall}
 use Rattle.rules.specs.declared.Head.{Head}
 use Rattle.rules.specs.declared.Refusal.{Refusal}
@@ -27,9 +27,9 @@ use Rattle.rules.specs.declared.Loaded.the-variants as loaded
 use Rattle.rules.specs.declared.Stored.{Stored}
 use Rattle.rules.specs.declared.Stored.the-variants as written
 
--- which version of the interface answers: major * 10000 + minor * 100 + patch, here 1.0.0
+-- which version of the interface answers: major * 10000 + minor * 100 + patch, here 2.0.0
 abbrev pub version : ℕ
-version = 10000
+version = 20000
 
 -- a head is 7 numbers
 abbrev pub headLength : ℕ
@@ -52,37 +52,39 @@ told (some r) = number r
 unfoldable pub checkAnswer : List ℕ → Tables → ℕ
 checkAnswer l t = cond (ltb (length l) headLength) 13 (told (verdict (common t (bookIn (headFrom l) t))))
 
--- a section as its start and length: two cells
+-- a section as its start and length, and the place: three cells
 pub record Stretch : Type 0 where
   pub result : ℕ
   pub start : ℕ
   pub size : ℕ
+  pub place : ℕ
 
-abbrev pub answered : ℕ → ℕ → ℕ → Stretch
-answered r s n = record { result = r; start = s; size = n }
+abbrev pub answered : ℕ → ℕ → ℕ → ℕ → Stretch
+answered r s n at = record { result = r; start = s; size = n; place = at }
 
-unfoldable pub stretchBy : List ℕ → ℕ → ℕ → ℕ → ℕ → Stretch
-stretchBy bs k s n zero = answered 0 (start (headIn bs) k) (length (sectionCall bs k .stretch))
-stretchBy bs k s n (suc r) = answered (suc r) s n
+unfoldable pub stretchBy : List ℕ → ℕ → ℕ → ℕ → ℕ → ℕ → Stretch
+stretchBy bs k s n at zero = answered 0 (start (headIn bs) k) (length (sectionCall bs k .stretch)) at
+stretchBy bs k s n at (suc r) = answered (suc r) s n at
 
 unfoldable pub sectionAnswer : List ℕ → ℕ → ℕ → ℕ → Stretch
-sectionAnswer bs k s n = stretchBy bs k s n (sectionCall bs k .cell)
+sectionAnswer bs k s n = stretchBy bs k s n (sectionCall bs k .place) (sectionCall bs k .cell)
 
--- reading
+-- reading, with a cell for the place
 pub record Loads : Type 0 where
   pub result : ℕ
   pub head : List ℕ
   pub tables : Tables
+  pub place : ℕ
 
-abbrev pub loadedAs : ℕ → List ℕ → Tables → Loads
-loadedAs r l t = record { result = r; head = l; tables = t }
+abbrev pub loadedAs : ℕ → List ℕ → Tables → ℕ → Loads
+loadedAs r l t at = record { result = r; head = l; tables = t; place = at }
 
 unfoldable pub readBy : Loaded → List ℕ → Tables → Loads
-readBy (loaded.No r) l t = loadedAs (number r) l t
-readBy (loaded.Is h) l t = loadedAs 0 (stored 0 (headNumbers h) l) t
+readBy (loaded.No d) l t = loadedAs (denialNumber d) l t (denialPlace d)
+readBy (loaded.Is h) l t = loadedAs 0 (stored 0 (headNumbers h) l) t 0
 
 unfoldable pub readAnswer : List ℕ → List ℕ → Tables → Loads
-readAnswer bs l t = cond (ltb (length l) headLength) (loadedAs 13 l t) (readBy (readCall bs t .answer) l (readCall bs t .tables))
+readAnswer bs l t = cond (ltb (length l) headLength) (loadedAs 13 l t 0) (readBy (readCall bs t .answer) l (readCall bs t .tables))
 
 -- writing, with a cell for the length
 pub record Writes : Type 0 where

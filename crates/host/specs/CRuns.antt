@@ -32,8 +32,8 @@ bookHeld s = bookIn (headFrom (s .numbers)) (s .tables)
 -- the call
 pub data CCall : Type 0 where
   c-check : CCall
-  c-section : List ℕ → ℕ → ℕ → ℕ → CCall
-  c-read : List ℕ → CCall
+  c-section : List ℕ → ℕ → ℕ → ℕ → ℕ → CCall
+  c-read : List ℕ → ℕ → CCall
   c-write : List ℕ → ℕ → CCall
   c-join : List ℕ → ℕ → CCall
   c-insert : List ℕ → ℕ → List ℕ → CCall
@@ -60,9 +60,9 @@ afterC (c-insert list n bs) s = leftByChange (insertAnswer bs (s .numbers) (s .t
 afterC (c-grant list n r u) s = leftByChange (changeAnswer (grants r u) (s .numbers) (s .tables) list n)
 afterC (c-revoke list n r u) s = leftByChange (changeAnswer (revokes r u) (s .numbers) (s .tables) list n)
 afterC (c-serve requests answers list n) s = leftByServe (serveAnswer requests (s .numbers) (s .tables) answers list n)
-afterC (c-read bs) s = leftByRead (readAnswer bs (s .numbers) (s .tables))
+afterC (c-read bs at) s = leftByRead (readAnswer bs (s .numbers) (s .tables))
 afterC c-check s = s
-afterC (c-section bs k a n) s = s
+afterC (c-section bs k a n at) s = s
 afterC (c-write buffer n) s = s
 afterC (c-view u r n) s = s
 afterC (c-open u r list i o) s = s
@@ -80,9 +80,9 @@ called (c-insert list n bs) = cond (ltb (length bs) bytes) [] (to-change (insert
 called (c-grant list n r u) = to-change (grants r u) list ∷ []
 called (c-revoke list n r u) = to-change (revokes r u) list ∷ []
 called (c-serve requests answers list n) = to-serve requests answers list ∷ []
-called (c-read bs) = to-read bs ∷ []
+called (c-read bs at) = to-read bs ∷ []
 called c-check = []
-called (c-section bs k a n) = to-show bs k ∷ []
+called (c-section bs k a n at) = to-show bs k ∷ []
 called (c-write buffer n) = to-write buffer ∷ []
 called (c-view u r n) = to-view u r ∷ []
 called (c-open u r list i o) = to-open u r list ∷ []

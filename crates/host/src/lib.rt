@@ -1,5 +1,5 @@
 // The C interface (include/fenstubble.h): thin functions over numbers and slices. The result is 0 or the refusal's number, and a refusal leaves every
-// cell as it was.
+// cell as it was, but for a place, which takes what is told with the refusal, and else 0.
 // The five tables are iv, it, ov, ot, rs: inner vertices and tokens, outer vertices and tokens, resources.
 pub mod requests;
 
@@ -13,6 +13,8 @@ use rules::OuterTokens;
 use rules::OuterVertices;
 use rules::Resources;
 use rules::Stored;
+use rules::denial_number;
+use rules::denial_place;
 use rules::refusal_number;
 use sound::Checked;
 use sound::check;
@@ -24,7 +26,7 @@ ghost use Rattle.rules.specs.Bytes.{tables};
 ghost use Rattle.host.specs.Answers.{version, headLength, headFrom, headNumbers, checkAnswer, sectionAnswer, readAnswer, writeAnswer, answered, loadedAs, writtenAs};
 
 // Major * 10000 + minor * 100 + patch.
-pub const VERSION: u32 = 10000;
+pub const VERSION: u32 = 20000;
 
 // The numbers of a head.
 pub const HEAD: usize = 7;
@@ -100,11 +102,12 @@ pub extern "C" fn fenstubble_section(
     k: usize,
     start: &mut usize,
     size: &mut usize,
+    place: &mut usize,
 ) -> u16
-    ensures { λ r. ⌜ answered r (now (start .exit)) (now (size .exit)) ≡ sectionAnswer (now (bytes .entry)) k (now (start .entry)) (now (size .entry)) ⌝ }
+    ensures { λ r. ⌜ answered r (now (start .exit)) (now (size .exit)) (now (place .exit)) ≡ sectionAnswer (now (bytes .entry)) k (now (start .entry)) (now (size .entry)) ⌝ }
 {
     let mut cell: u16 = 0;
-    let n = book::section(bytes, k, &mut cell).len();
+    let n = book::section(bytes, k, &mut cell, place).len();
     if cell != 0 {
         return cell;
     }
@@ -122,15 +125,20 @@ pub extern "C" fn fenstubble_read(
     ov: &mut [u8],
     ot: &mut [u8],
     rs: &mut [u8],
+    place: &mut usize,
 ) -> u16
-    ensures { λ r. ⌜ loadedAs r (now (head .exit)) (tables (now (iv .exit)) (now (it .exit)) (now (ov .exit)) (now (ot .exit)) (now (rs .exit))) ≡ readAnswer (now (bytes .entry)) (now (head .entry)) (tables (now (iv .entry)) (now (it .entry)) (now (ov .entry)) (now (ot .entry)) (now (rs .entry))) ⌝ }
+    ensures { λ r. ⌜ loadedAs r (now (head .exit)) (tables (now (iv .exit)) (now (it .exit)) (now (ov .exit)) (now (ot .exit)) (now (rs .exit))) (now (place .exit)) ≡ readAnswer (now (bytes .entry)) (now (head .entry)) (tables (now (iv .entry)) (now (it .entry)) (now (ov .entry)) (now (ot .entry)) (now (rs .entry))) ⌝ }
 {
+    *place = 0;
     if head.len() < HEAD {
         return 13;
     }
     let a = book::read(bytes, iv, it, ov, ot, rs);
     match a {
-        Loaded::No(n) => refusal_number(n),
+        Loaded::No(d) => {
+            *place = denial_place(d);
+            denial_number(d)
+        }
         Loaded::Is(h) => {
             put_head(head, h);
             0

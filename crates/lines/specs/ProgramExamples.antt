@@ -7,7 +7,7 @@ use mathlib.Core.Path.{refl}
 use mathlib.Core.List.{List, [], _∷_, _++_}
 use Rattle.sets.specs.Sets.{sizeIn, size}
 use Rattle.rows.specs.Number.{joined}
-use Rattle.rules.specs.Lists.{every, some, keep, first, pairwise, numbered, tabulateFrom, tabulate, upTo}
+use Rattle.rules.specs.Lists.{every, some, keep, first, numbered, tabulateFrom, tabulate, upTo}
 use Rattle.rules.specs.Layer.{setOf, ofSize, bySize, takes, cover, vertexFor, found, withVertex}
 use Rattle.rules.specs.Book.{emptyLayer, emptyBook, resource, hasOuter, withInner, withOuter, withResources, withList, withLock}
 use Rattle.rules.specs.Holders.{into, sources, byToken, holders, holdersOf, innerKnown, outerKnown, view}
@@ -49,7 +49,7 @@ inputs = (
 
 pub program-examples : Right inputs
 unfolding Right inputs prints long orderRow orderRows chainRows asked joined
-    sizeIn size every some keep first pairwise numbered tabulateFrom tabulate upTo
+    sizeIn size every some keep first numbered tabulateFrom tabulate upTo
     setOf ofSize bySize takes cover vertexFor found withVertex
     emptyLayer emptyBook resource hasOuter withInner withOuter withResources withList withLock
     into sources byToken holders holdersOf innerKnown outerKnown view lockedFor

@@ -6,8 +6,9 @@ use mathlib.Core.List.{List, [], _∷_}
 use lib.ListN.{replicate}
 use Rattle.rows.specs.Number.{rowsOf}
 use Rattle.rules.specs.Lists as lists
-use Rattle.rules.specs.Lists.{every, pairwise, numbered, tabulateFrom, tabulate, upTo}
-use Rattle.rules.specs.Sound.{named, hasOwn, owned, distinct, rising, united, lateral, counts, placed, held, locked, S1, S2, S3, S4, S5, S6, S7, S8, sound}
+use Rattle.rules.specs.Lists.{every, numbered, tabulateFrom, tabulate, upTo}
+use Rattle.rules.specs.Tests.{allPass, kept, allKept}
+use Rattle.rules.specs.Sound.{hasOwn, placed, held, locked, countLimits, inLimit, counts, rows1, rows2, rows3, rows4, rows5, rows6, rows7, rows8, rules, sound}
 use Rattle.rules.specs.Requests.{order, done, withSet, join}
 use Rattle.rules.specs.Bytes.{Tables, tables, head, headOf, setsIn, tokensIn, resourcesIn, bookIn}
 use Rattle.rules.specs.Refusals.{joins, short, common, own, limits, work, verdict, refusal}
@@ -31,5 +32,5 @@ pub joins-on-records :
     × (joinOn 2 ≡ (Done (head 1 1 0 1 0 1 0) 2, order 4 0 0 ∷ order 1 0 0 ∷ []))
     × (joinOn 1 ≡ (No ShortList, order 9 9 9 ∷ []))
 unfolding joinOn blank recorded recordedBy recordsBy over changeBy refusal verdict common short own limits work join done withSet headOf bookIn setsIn tokensIn resourcesIn rowsOf
-    lists.some every pairwise numbered tabulateFrom tabulate upTo named hasOwn owned distinct rising united lateral counts placed held locked S1 S2 S3 S4 S5 S6 S7 S8 sound
+    lists.some every numbered tabulateFrom tabulate upTo allPass kept allKept hasOwn placed held locked countLimits inLimit counts rows1 rows2 rows3 rows4 rows5 rows6 rows7 rows8 rules sound
 joins-on-records = (refl, refl, refl)

@@ -18,10 +18,10 @@ use fenstubble_reference::{bytes, sets::UserSet};
 
 use crate::clock;
 use crate::compare::compare;
-use crate::desk::Desk;
 use crate::engine::Engine;
 use crate::memory::{Filler, Lent, Memory};
 use crate::model::Model;
+use crate::process::Process;
 use crate::side::{Call, Side};
 use crate::stack;
 use crate::worlds::{chained, grown, large, shuffled, typical, LARGEST, NEARLY};
@@ -407,7 +407,7 @@ fn program(say: &impl Fn(&str)) -> String {
 }
 
 fn measure_program(say: &impl Fn(&str)) -> Result<String, String> {
-    let desk = Desk::find()?;
+    let desk = Process::desk()?;
     let reference = Path::new(env!("CARGO_MANIFEST_DIR")).join("../target/release/reference");
     let script = Temporary::of("script", script().as_bytes()).map_err(|e| e.to_string())?;
     // Once before, so that what can go wrong is told.

@@ -2,18 +2,24 @@
 
 use std::fmt;
 
-use fenstubble_reference::book::{Book, Mode, SoundBook};
-use fenstubble_reference::bytes::{self, HEAD_LENGTH, LIMITS, WIDTHS};
+use fenstubble_reference::book::{Book, Mode, Section, SoundBook};
+use fenstubble_reference::bytes::{self, COUNT_PLACES, HEAD_LENGTH, LIMITS, WIDTHS};
+use fenstubble_reference::fault::Fault;
 use fenstubble_reference::generate::{self, Random, Shape};
 use fenstubble_reference::sets::UserSet;
-use fenstubble_reference::sound::{broken_rules, Rule};
+use fenstubble_reference::sound::{broken_rules, At, Broken, Rule};
 
 use crate::compare::Tally;
+use crate::damage::{damaged, damaged_rows, rich, some_kind, Which, KINDS};
 use crate::limits;
-use crate::memory::{Filler, Lent, Memory};
+use crate::memory::{Filler, Lent, Memory, TABLES};
 use crate::report::{random_of, Bounds, Report, Session};
+use crate::shrink::head_in;
 use crate::side::Call;
-use crate::worlds::{large, LARGEST};
+use crate::worlds::{large, LARGEST, NEARLY};
+
+/// The numbers that tell what is wrong with a book's bytes.
+pub const NUMBERS: [u8; 13] = [20, 21, 22, 23, 24, 31, 32, 33, 34, 35, 36, 37, 38];
 
 /// What was compared.
 #[derive(Clone, Debug, Default)]
@@ -24,8 +30,119 @@ pub struct Summary {
     pub sound: usize,
     /// Damaged books that break one rule alone, by the rule.
     pub alone: [usize; 8],
+    /// Where the counts were that were the first over their limit.
+    pub counts: [usize; 6],
+    /// Where the first rows were that break the first rule.
+    pub rows: Rows,
     /// The calls and their answers.
     pub tally: Tally,
+}
+
+impl Summary {
+    /// What can be wrong with a book's bytes and was not met: numbers, counts,
+    /// and rules by section and row.
+    pub fn never_met(&self) -> Vec<String> {
+        let mut never = Vec::new();
+        for number in NUMBERS {
+            for name in ["section", "read"] {
+                if self.tally.of(name, number) == 0 {
+                    never.push(format!("{name} {number}"));
+                }
+            }
+        }
+        for (count, at) in self.counts.iter().zip(COUNT_PLACES) {
+            if *count == 0 {
+                never.push(format!("23 at {at}"));
+            }
+        }
+        never.extend(self.rows.never_met());
+        never
+    }
+}
+
+/// How often each rule was the first one broken, by where: each section, its
+/// first row, its last row, and those between; and how often a vertex was
+/// missing.
+#[derive(Clone, Debug, Default)]
+pub struct Rows {
+    by_row: [[[usize; 3]; 5]; 8],
+    missing: usize,
+}
+
+/// The rows of a section, as they are counted.
+const ENDS: [&str; 3] = ["first row", "between", "last row"];
+
+impl Rows {
+    /// Counts one, in a book with that head.
+    fn count(&mut self, broken: Broken, rows: [usize; 5]) {
+        let At::Row(section, row) = broken.at else {
+            self.missing += 1;
+            return;
+        };
+        let counts = &mut self.by_row[broken.rule as usize][section.number()];
+        let last = row + 1 == rows[section.number()];
+        counts[0] += usize::from(row == 0);
+        counts[1] += usize::from(row != 0 && !last);
+        counts[2] += usize::from(last);
+    }
+
+    /// The sections in which a rule can be broken.
+    fn sections(rule: Rule) -> &'static [Section] {
+        use Section::{InnerTokens, InnerVertices, OuterTokens, OuterVertices, Resources};
+        match rule {
+            Rule::S1 => &Section::ALL,
+            Rule::S2 => &[InnerVertices, InnerTokens, OuterTokens],
+            Rule::S3 | Rule::S5 => &[InnerVertices, OuterVertices],
+            Rule::S4 | Rule::S6 => &[InnerTokens, OuterTokens],
+            Rule::S7 | Rule::S8 => &[Resources],
+        }
+    }
+
+    /// Whether the first row of a section can break the rule: not where the
+    /// later of equal rows does.
+    fn first_row_can(rule: Rule, section: Section) -> bool {
+        rule != Rule::S3 && (rule, section) != (Rule::S6, Section::OuterTokens)
+    }
+
+    /// What was not met.
+    fn never_met(&self) -> Vec<String> {
+        let mut never = Vec::new();
+        if self.missing == 0 {
+            never.push("S2, a missing vertex".into());
+        }
+        for rule in Rule::ALL {
+            for &section in Rows::sections(rule) {
+                let counts = self.by_row[rule as usize][section.number()];
+                for (end, name) in ENDS.iter().enumerate() {
+                    let can = end > 0 || Rows::first_row_can(rule, section);
+                    if can && counts[end] == 0 {
+                        let table = TABLES[section.number()];
+                        never.push(format!("{rule:?}, {table}, {name}"));
+                    }
+                }
+            }
+        }
+        never
+    }
+}
+
+impl fmt::Display for Rows {
+    fn fmt(&self, f: &mut fmt::Formatter<'_>) -> fmt::Result {
+        writeln!(f, "first rules broken, by {}:", ENDS.join("/"))?;
+        for rule in Rule::ALL {
+            write!(f, "{rule:?}:")?;
+            for &section in Rows::sections(rule) {
+                let [first, between, last] = self.by_row[rule as usize][section.number()];
+                let table = TABLES[section.number()];
+                write!(f, " {table} {first}/{between}/{last};")?;
+            }
+            if rule == Rule::S2 {
+                write!(f, " a vertex missing {};", self.missing)?;
+            }
+            writeln!(f)?;
+        }
+        Ok(())
+    }
 }
 
 impl fmt::Display for Summary {
@@ -42,7 +159,11 @@ impl fmt::Display for Summary {
         for (rule, count) in Rule::ALL.iter().zip(self.alone) {
             write!(f, " {rule:?} {count}")?;
         }
-        writeln!(f)
+        write!(f, "\nfirst counts over their limit:")?;
+        for (at, count) in COUNT_PLACES.iter().zip(self.counts) {
+            write!(f, " at {at} {count}")?;
+        }
+        write!(f, "\n{}", self.rows)
     }
 }
 
@@ -55,11 +176,30 @@ const LARGE: usize = 4096;
 type Outcome = Result<(), Box<Report>>;
 
 /// The cases that are the same for every seed.
-const FIXED: [fn(&mut Books, &mut Random) -> Outcome; 4] = [
+const FIXED: [fn(&mut Books, &mut Random) -> Outcome; 8] = [
     Books::short_strings,
     Books::every_head_byte,
     Books::around_the_limits,
     Books::every_head_number,
+    Books::long_strings,
+    Books::each_kind_of_damage,
+    Books::each_pair_of_kinds,
+    Books::large_books_damaged,
+];
+
+/// Lengths around that of the largest book, and around those that 16 bits
+/// hold.
+pub const LENGTHS: [usize; 10] = [
+    46_608,
+    46_609,
+    46_610,
+    65_534,
+    65_535,
+    65_536,
+    65_537,
+    65_536 + 79,
+    70_000,
+    200_000,
 ];
 
 /// Compares about so many byte strings, and tables along with them.
@@ -95,6 +235,7 @@ impl Books {
     /// All calls on one byte string.
     fn string(&mut self, random: &mut Random, bytes: &[u8]) -> Outcome {
         self.summary.strings += 1;
+        self.count_fault(bytes);
 
         let lent = Lent::bytes(bytes);
         let mut sections: Vec<usize> = (0..=6).collect();
@@ -124,6 +265,22 @@ impl Books {
             self.tables(random, &lent, bytes.len())?;
         }
         Ok(())
+    }
+
+    /// Counts what is wrong with the bytes.
+    fn count_fault(&mut self, given: &[u8]) {
+        match bytes::read(given) {
+            Err(Fault::Count { place, .. }) => {
+                if let Some(at) = COUNT_PLACES.iter().position(|&at| at == place) {
+                    self.summary.counts[at] += 1;
+                }
+            }
+            Err(Fault::Broken { broken, .. }) => {
+                let rows = head_in(given).counts();
+                self.summary.rows.count(broken, rows);
+            }
+            _ => {}
+        }
     }
 
     /// Check and write on head and tables; a book of that length may be
@@ -255,6 +412,70 @@ impl Books {
         Ok(())
     }
 
+    /// Long strings: a header that is fine, and one that is not, before noise or
+    /// zeros.
+    fn long_strings(&mut self, random: &mut Random) -> Outcome {
+        for length in LENGTHS {
+            for mode in [Mode::Delta, Mode::Full] {
+                let mut bytes = bytes::write(&sample(mode));
+                bytes.extend(Filler::any(random).bytes(length - bytes.len()));
+                self.string(random, &bytes)?;
+                for at in [0, 4, 5, 6, 16] {
+                    let mut bytes = bytes.clone();
+                    bytes[at] = 0xEE;
+                    self.string(random, &bytes)?;
+                }
+            }
+        }
+        Ok(())
+    }
+
+    /// Each kind of damage at the first row, one in the middle and the last.
+    fn each_kind_of_damage(&mut self, random: &mut Random) -> Outcome {
+        for kind in KINDS {
+            for which in Which::ENDS {
+                for _ in 0..12 {
+                    let book = rich(random);
+                    if let Some(bytes) = damaged(random, &book, &[(kind, which)]) {
+                        self.string(random, &bytes)?;
+                    }
+                }
+            }
+        }
+        Ok(())
+    }
+
+    /// Each pair of kinds, at any rows; so of each pair of rules, and of one
+    /// rule at two rows.
+    fn each_pair_of_kinds(&mut self, random: &mut Random) -> Outcome {
+        for one in KINDS {
+            for other in KINDS {
+                let book = rich(random);
+                let kinds = [(one, Which::some(random)), (other, Which::some(random))];
+                if let Some(bytes) = damaged(random, &book, &kinds) {
+                    self.string(random, &bytes)?;
+                }
+            }
+        }
+        Ok(())
+    }
+
+    /// Each kind of damage to the largest book, and to a nearly largest one that
+    /// has room for more rows.
+    fn large_books_damaged(&mut self, random: &mut Random) -> Outcome {
+        for size in [LARGEST, NEARLY] {
+            let book = large(&size).book.into_book();
+            for kind in KINDS {
+                for which in Which::ENDS {
+                    if let Some(bytes) = damaged(random, &book, &[(kind, which)]) {
+                        self.string(random, &bytes)?;
+                    }
+                }
+            }
+        }
+        Ok(())
+    }
+
     /// Reads the bytes, and some that are no book, into what is lent.
     fn read_into(&mut self, lent: &Lent, bytes: &[u8]) -> Outcome {
         for bytes in [bytes, &bytes[1..], &[]] {
@@ -284,6 +505,20 @@ impl Books {
                 self.summary.alone[rule as usize] += 1;
             }
             self.book(random, &damaged)?;
+        }
+
+        // One to three kinds of damage, each at some row.
+        for _ in 0..6 {
+            let mut kinds = vec![some_kind(random)];
+            while kinds.len() < 3 && random.chance(1, 3) {
+                kinds.push(some_kind(random));
+            }
+            if let Some(bytes) = damaged(random, &book, &kinds) {
+                self.string(random, &bytes)?;
+            }
+        }
+        if let Some(damaged) = damaged_rows(random, &book) {
+            self.tables_of(random, &damaged)?;
         }
 
         // Any bytes changed.

@@ -131,10 +131,13 @@ fn difference<T: Cell>(
     format!("{name} {place}: engine {by_engine:?}, model {by_model:?}{untouched}\n")
 }
 
+/// The refusals' numbers are below this one.
+const NUMBERS: usize = 39;
+
 /// How often each call got each answer, by the refusal's number.
 #[derive(Clone, Debug, Default, PartialEq, Eq)]
 pub struct Tally {
-    answers: BTreeMap<&'static str, [usize; 14]>,
+    answers: BTreeMap<&'static str, [usize; NUMBERS]>,
     /// Inserts whose list was lent as fewer bytes than a set's, as many, and
     /// more.
     pub lists: [usize; 3],
@@ -143,8 +146,8 @@ pub struct Tally {
 impl Tally {
     /// Counts one.
     pub fn count(&mut self, call: Call, number: u8) {
-        let answers = self.answers.entry(call.name()).or_default();
-        answers[usize::from(number).min(13)] += 1;
+        let answers = self.answers.entry(call.name()).or_insert([0; NUMBERS]);
+        answers[usize::from(number)] += 1;
         if let Call::Insert(_, length) = call {
             let place = match length.cmp(&SET) {
                 Ordering::Less => 0,
@@ -159,7 +162,7 @@ impl Tally {
     pub fn of(&self, name: &str, number: u8) -> usize {
         self.answers
             .get(name)
-            .map_or(0, |answers| answers[usize::from(number).min(13)])
+            .map_or(0, |answers| answers[usize::from(number)])
     }
 
     /// How many calls of that name there were.

@@ -35,7 +35,7 @@ pub(crate) mod c {
 
     declare! {
         fn fenstubble_check(head: *const u16, head_len: usize; const tables;);
-        fn fenstubble_read(book: *const u8, book_len: usize, head: *mut u16, head_len: usize; mut tables;);
+        fn fenstubble_read(book: *const u8, book_len: usize, head: *mut u16, head_len: usize; mut tables; place: *mut usize);
         fn fenstubble_write(head: *const u16, head_len: usize; const tables; buffer: *mut u8, buffer_len: usize, length: *mut usize);
         fn fenstubble_join(head: *mut u16, head_len: usize; mut tables; orders: *mut u16, orders_len: usize, count: *mut u16);
         fn fenstubble_insert(head: *mut u16, head_len: usize; mut tables; orders: *mut u16, orders_len: usize, count: *mut u16, list: *const u8, list_len: usize);
@@ -53,14 +53,26 @@ pub(crate) mod c {
             k: usize,
             start: *mut usize,
             length: *mut usize,
+            place: *mut usize,
         ) -> u16;
         pub fn fenstubble_version() -> u32;
     }
 }
 
-/// What stands in a cell before a call, so that one left alone is seen: in an
-/// accepted call none is, in a refused one each.
-const LEFT: u16 = 0xA7A7;
+/// A cell, and what stands in it before a call, so that one left alone is seen:
+/// in an accepted call none is, in a refused one each but that of the place. No
+/// byte of it is 0, so that one that is not written whole is seen too.
+trait Cell: Copy + Debug + PartialEq {
+    const LEFT: Self;
+}
+
+impl Cell for u16 {
+    const LEFT: u16 = 0xA7A7;
+}
+
+impl Cell for usize {
+    const LEFT: usize = usize::MAX / 0xFF * 0xA7;
+}
 
 /// Makes a C call with head and tables in their place among the arguments,
 /// each as pointer and length.
@@ -92,17 +104,19 @@ impl Side for Engine {
     fn make(call: Call, lent: &mut Lending) -> Answer {
         let (list, list_len) = (lent.list.as_mut_ptr(), lent.list.len());
         let (book, book_len) = (lent.book.as_mut_ptr(), lent.book.len());
-        // The cells; a call has one or two of either width.
-        let (mut a, mut b) = (LEFT, LEFT);
-        let (mut start, mut length) = (usize::from(LEFT), usize::from(LEFT));
+        // The cells; a call has one or two of either width, and perhaps one for
+        // the place.
+        let (mut a, mut b) = (u16::LEFT, u16::LEFT);
+        let (mut start, mut length, mut place) = (usize::LEFT, usize::LEFT, usize::LEFT);
         let (cell, second) = (&raw mut a, &raw mut b);
         let code = match call {
             Call::Check => c!(fenstubble_check(; lent;)),
             // SAFETY: as for the calls with tables.
             Call::Section(k) => unsafe {
-                c::fenstubble_section(book, book_len, k, &raw mut start, &raw mut length)
+                let (start, length, place) = (&raw mut start, &raw mut length, &raw mut place);
+                c::fenstubble_section(book, book_len, k, start, length, place)
             },
-            Call::Read => c!(fenstubble_read(book, book_len; lent;)),
+            Call::Read => c!(fenstubble_read(book, book_len; lent; &raw mut place)),
             Call::Write => {
                 let (buffer, buffer_len) = (lent.buffer.as_mut_ptr(), lent.buffer.len());
                 c!(fenstubble_write(; lent; buffer, buffer_len, &raw mut length))
@@ -122,14 +136,20 @@ impl Side for Engine {
                 c!(fenstubble_serve(; lent; requests, requests_len, answers, answers_len, list, list_len, &raw mut length))
             }
         };
+        let told = Told { code, place: None };
+        let placed = Told {
+            code,
+            place: Some(place),
+        };
         match call {
-            Call::Check | Call::Read => answer(code, [0; 0], |[]| Given::Nothing),
-            Call::Section(_) => answer(code, [start, length], |[a, b]| Given::Stretch(a, b)),
-            Call::Write => answer(code, [length], |[n]| Given::Length(n)),
-            Call::View(..) => answer(code, [a], |[n]| Given::View(n)),
-            Call::Open(..) => answer(code, [a, b], |[a, b]| Given::Chains(a, b)),
-            Call::Serve => answer(code, [length], |[n]| Given::Used(n)),
-            _ => answer(code, [a], |[n]| Given::Orders(n)),
+            Call::Check => told.answer([0u16; 0], |[]| Given::Nothing),
+            Call::Read => placed.answer([0u16; 0], |[]| Given::Nothing),
+            Call::Section(_) => placed.answer([start, length], |[a, b]| Given::Stretch(a, b)),
+            Call::Write => told.answer([length], |[n]| Given::Length(n)),
+            Call::View(..) => told.answer([a], |[n]| Given::View(n)),
+            Call::Open(..) => told.answer([a, b], |[a, b]| Given::Chains(a, b)),
+            Call::Serve => told.answer([length], |[n]| Given::Used(n)),
+            _ => told.answer([a], |[n]| Given::Orders(n)),
         }
     }
 }
@@ -140,34 +160,57 @@ pub fn version() -> u32 {
     unsafe { c::fenstubble_version() }
 }
 
-/// The refusal with that result, if it is one a call can give.
-fn refusal_of(code: u16) -> Option<Refusal> {
-    match (code % 256, code / 256) {
-        (11, 1) => Some(Refusal::closed(View::SelLocked)),
-        (11, 2) => Some(Refusal::closed(View::BelLocked)),
-        (11, 3) => Some(Refusal::closed(View::Locked)),
-        (11, _) => None,
-        (number @ 1..=13, 0) => Some(Refusal {
-            number: number as u8,
-            view: None,
-        }),
-        _ => None,
-    }
+/// The result of a call, and what it left in the cell for the place, if it has
+/// one.
+#[derive(Clone, Copy, Debug)]
+struct Told {
+    code: u16,
+    place: Option<usize>,
 }
 
-/// An answer from the result and the cells, which a refusal leaves alone.
-fn answer<T: Copy + Debug + From<u16> + PartialEq, const N: usize>(
-    code: u16,
-    cells: [T; N],
-    given: impl FnOnce([T; N]) -> Given,
-) -> Answer {
-    match refusal_of(code) {
-        _ if code == 0 => Ok(Ok(given(cells))),
-        Some(no) if cells == [LEFT.into(); N] => Ok(Err(no)),
-        _ => Err(Odd {
-            code,
-            cells: format!("{cells:?}"),
-        }),
+impl Told {
+    /// The refusal, if it is one that the call can give. Only those with a
+    /// place may leave another than 0.
+    fn refusal(self) -> Option<Refusal> {
+        let view = match (self.code % 256, self.code / 256) {
+            (11, 1) => Some(View::SelLocked),
+            (11, 2) => Some(View::BelLocked),
+            (11, 3) => Some(View::Locked),
+            (11, _) => return None,
+            (_, 0) => None,
+            _ => return None,
+        };
+        let number = (self.code % 256) as u8;
+        match (number, self.place) {
+            (1..=13, None | Some(0)) => Some(Refusal {
+                number,
+                view,
+                place: None,
+            }),
+            (20..=24 | 31..=38, Some(place)) => Some(Refusal::misread(number, place)),
+            _ => None,
+        }
+    }
+
+    /// The answer, with the other cells, which a refusal leaves alone.
+    fn answer<T: Cell, const N: usize>(
+        self,
+        cells: [T; N],
+        given: impl FnOnce([T; N]) -> Given,
+    ) -> Answer {
+        match self.refusal() {
+            _ if self.code == 0 && self.place.is_none_or(|place| place == 0) => {
+                Ok(Ok(given(cells)))
+            }
+            Some(no) if cells == [T::LEFT; N] => Ok(Err(no)),
+            _ => Err(Odd {
+                code: self.code,
+                cells: match self.place {
+                    Some(place) => format!("{cells:?} and place {place}"),
+                    None => format!("{cells:?}"),
+                },
+            }),
+        }
     }
 }
 
@@ -175,9 +218,14 @@ fn answer<T: Copy + Debug + From<u16> + PartialEq, const N: usize>(
 mod tests {
     use super::*;
 
+    const LEFT: u16 = u16::LEFT;
+
     #[test]
     fn results_and_cells_that_are_no_answer() {
-        let answer = |code, cell: u16| answer(code, [cell], |[n]| Given::Orders(n));
+        let answer = |code, cell: u16| {
+            let told = Told { code, place: None };
+            told.answer([cell], |[n]| Given::Orders(n))
+        };
         assert_eq!(answer(0, 7), Ok(Ok(Given::Orders(7))));
         assert_eq!(answer(12, LEFT), Ok(Err(Refusal::UNSOUND)));
         for (view, number) in [
@@ -190,11 +238,50 @@ mod tests {
                 Ok(Err(Refusal::closed(view)))
             );
         }
-        for code in [11, 14, 15, 256, 12 + 256, 11 + 4 * 256, 65535] {
+        for code in [
+            11,
+            14,
+            15,
+            20,
+            24,
+            31,
+            38,
+            256,
+            12 + 256,
+            11 + 4 * 256,
+            65535,
+        ] {
             assert!(answer(code, LEFT).is_err(), "{code}");
         }
         for cell in [0, 1, 12] {
             assert!(answer(12, cell).is_err(), "{cell}");
+        }
+    }
+
+    #[test]
+    fn results_and_places_that_are_no_answer() {
+        let answer = |code, place| {
+            let told = Told {
+                code,
+                place: Some(place),
+            };
+            told.answer([u16::LEFT], |[n]| Given::Orders(n))
+        };
+        // Accepted, or refused without a place: the cell takes 0.
+        for code in [0, 1, 13] {
+            assert!(answer(code, 0).is_ok(), "{code}");
+            for place in [1, 5, 65535, usize::LEFT] {
+                assert!(answer(code, place).is_err(), "{code} {place}");
+            }
+        }
+        for code in (20..=24).chain(31..=38) {
+            for place in [0, 17, 65535, 70_000] {
+                let no = Refusal::misread(code as u8, place);
+                assert_eq!(answer(code, place), Ok(Err(no)));
+            }
+        }
+        for code in [14, 19, 25, 30, 39, 255, 20 + 256, 31 + 256] {
+            assert!(answer(code, 0).is_err(), "{code}");
         }
     }
 }

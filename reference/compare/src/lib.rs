@@ -7,6 +7,7 @@
 //! | [`side`] | the calls, what they are lent and what they answer |
 //! | [`engine`] | the C interface, made safe |
 //! | [`model`] | the reference program's lent face in the same shape |
+//! | [`damage`] | books damaged at a chosen row, rule by rule |
 //! | [`limits`] | books at, below and past each limit |
 //! | [`memory`] | lent stretches with canaries |
 //! | [`compare`] | one call on both sides; what differs; tallies |
@@ -14,10 +15,11 @@
 //! | [`report`] | a difference with its seed and smallest case; bounded runs |
 //! | [`books`] | check, section, read and write |
 //! | [`requests`] | join, insert, grant, revoke, view and open; serve |
-//! | [`desk`] | the engine's request program as a process |
+//! | [`process`] | a program of the engine as a process |
 //! | [`lines`] | lines of scripts, fine and malformed |
 //! | [`script`] | one script on both programs; smaller scripts that still differ |
 //! | [`scripts`] | whole scripts, program against program |
+//! | [`inspections`] | a book's bytes, check program against check program |
 //! | [`worlds`] | the books that are measured |
 //! | [`bench`], [`clock`] | the measurements; processor time |
 //! | [`stack`] | the stack that a call takes |
@@ -32,12 +34,15 @@ pub mod books;
 pub mod clock;
 pub mod command;
 pub mod compare;
-pub mod desk;
+pub mod damage;
+
 pub mod engine;
+pub mod inspections;
 pub mod limits;
 pub mod lines;
 pub mod memory;
 pub mod model;
+pub mod process;
 pub mod report;
 pub mod requests;
 pub mod script;

@@ -104,12 +104,13 @@ fn ordered((after, count): (Head, usize)) -> (Head, Given) {
 fn section(book: &[u8], k: usize) -> Result<Given, Refusal> {
     // Numbers above 65535 are those of no section, like 65535.
     let k = u16::try_from(k).unwrap_or(u16::MAX);
-    let mut cell = 0;
-    let stretch = lent::section(book, k, &mut cell);
+    let (mut cell, mut place) = (0, 0);
+    let stretch = lent::section(book, k, &mut cell, &mut place);
     let start = stretch.as_ptr().addr() - book.as_ptr().addr();
     match cell {
         0 => Ok(Given::Stretch(start, stretch.len())),
         1 => Err(Refusal::NOT_THERE),
-        _ => Err(Refusal::UNSOUND),
+        // No number is above 255.
+        number => Err(Refusal::misread(number as u8, place)),
     }
 }

@@ -8,7 +8,7 @@ use fenstubble_reference::check;
 use fenstubble_reference::program;
 use fenstubble_reference::requests::Request;
 
-use crate::desk::{Desk, Reply};
+use crate::process::{Process, Reply};
 use crate::shrink::fewer;
 
 /// How many bytes of smaller scripts are tried at most, each script counted
@@ -150,7 +150,7 @@ impl Difference {
 
 /// How the programs differ on the script, if they do; and the expected
 /// output.
-pub fn difference(desk: &Desk, script: &Script, piece: usize) -> (Option<Difference>, Vec<u8>) {
+pub fn difference(desk: &Process, script: &Script, piece: usize) -> (Option<Difference>, Vec<u8>) {
     let input = script.input();
     let expected = expected(&input);
     let most = expected.len() * 2 + (1 << 20);
@@ -159,7 +159,7 @@ pub fn difference(desk: &Desk, script: &Script, piece: usize) -> (Option<Differe
 }
 
 /// The smallest script found that still differs in that way.
-pub fn smallest(desk: &Desk, script: &Script, piece: usize, kinds: &[String; 2]) -> Script {
+pub fn smallest(desk: &Process, script: &Script, piece: usize, kinds: &[String; 2]) -> Script {
     let left = Counter::new(MOST_TRIED);
     let differs = |script: &Script| {
         let cost = script.input().len().max(LEAST_COUNTED);

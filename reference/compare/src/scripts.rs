@@ -12,11 +12,11 @@ use fenstubble_reference::program::{self, LONGEST_LINE};
 use fenstubble_reference::requests::Request;
 use fenstubble_reference::sets::UserSet;
 
-use crate::desk::Desk;
 use crate::limits::of_size;
 use crate::lines::{
     firsts_of, lines_of, FIRSTS, GAPS, LASTS, LENGTHS, LISTS, NUMBERS, REQUESTS, RESTS, WORDS,
 };
+use crate::process::Process;
 use crate::report::{random_of, Bounds, Report};
 use crate::script::{difference, kind, shown, smallest, Difference, Script};
 use crate::worlds::{large, LARGEST};
@@ -84,7 +84,7 @@ const FIXED: [fn(&mut Scripts, &mut Random) -> Outcome; 11] = [
 ];
 
 /// Compares about so many lines.
-pub fn run(desk: &Desk, bounds: Bounds) -> Result<Summary, Box<Report>> {
+pub fn run(desk: &Process, bounds: Bounds) -> Result<Summary, Box<Report>> {
     let since = Instant::now();
     let mut scripts = Scripts {
         desk: desk.clone(),
@@ -221,7 +221,7 @@ impl Writer {
 const MODES: [Mode; 2] = [Mode::Delta, Mode::Full];
 
 struct Scripts {
-    desk: Desk,
+    desk: Process,
     seed: u64,
     case: u64,
     summary: Summary,

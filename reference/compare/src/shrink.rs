@@ -4,7 +4,7 @@ use std::cell::Cell as Counter;
 use std::fmt;
 
 use fenstubble_reference::book::{Book, Head, Mode, ResourceRow};
-use fenstubble_reference::bytes::{self, read_rows, HEAD_LENGTH, LIMITS, MARK, WIDTHS};
+use fenstubble_reference::bytes::{self, read_rows, HEAD_LENGTH, LIMITS, MODE_PLACE, WIDTHS};
 use fenstubble_reference::numbers::{InnerVertex, OuterVertex, User};
 use fenstubble_reference::sets::UserSet;
 
@@ -51,7 +51,11 @@ impl Case {
             case = case.with_requests(&rows.concat());
         }
         match case.call {
-            Call::Section(_) | Call::Read => case.smallest_bytes(differs),
+            Call::Section(_) | Call::Read => {
+                let given = case.lent.book.content();
+                let bytes = smallest_bytes(given, |bytes| differs(&case.with_bytes(bytes)));
+                case.with_bytes(&bytes)
+            }
             _ => match case.lent.book_in_tables() {
                 Some(book) => {
                     let book = smallest_book(book, |book| differs(&case.with_book(book)));
@@ -89,41 +93,6 @@ impl Case {
         let mut case = self.clone();
         case.lent.book = Memory::of(bytes);
         case
-    }
-
-    fn smallest_bytes(self, differs: impl Fn(&Case) -> bool) -> Case {
-        let given = self.lent.book.content();
-        let Some(loose) = Loose::of(given) else {
-            // Not even a head and its rows: any bytes less.
-            let bytes = fewer(given, |bytes| differs(&self.with_bytes(bytes)));
-            return self.with_bytes(&bytes);
-        };
-        let tail = fewer(&loose.tail, |tail| {
-            let tail = tail.to_vec();
-            differs(
-                &self.with_bytes(
-                    &Loose {
-                        tail,
-                        ..loose.clone()
-                    }
-                    .bytes(),
-                ),
-            )
-        });
-        let loose = Loose { tail, ..loose };
-        let book = smallest_book(loose.book.clone(), |book| {
-            let book = book.clone();
-            differs(
-                &self.with_bytes(
-                    &Loose {
-                        book,
-                        ..loose.clone()
-                    }
-                    .bytes(),
-                ),
-            )
-        });
-        self.with_bytes(&Loose { book, ..loose }.bytes())
     }
 
     /// The same call on the tables of another book.
@@ -166,10 +135,7 @@ impl fmt::Display for Case {
         writeln!(f, "{}", self.call)?;
         let lent = &self.lent;
         if matches!(self.call, Call::Section(_) | Call::Read) {
-            write_bytes(f, "a book", lent.book.content())?;
-            if let Some(loose) = Loose::of(lent.book.content()) {
-                write_book(f, &loose.book)?;
-            }
+            write!(f, "{}", Shown(lent.book.content()))?;
         }
         if matches!(self.call, Call::Section(_)) {
             return Ok(());
@@ -214,6 +180,21 @@ impl fmt::Display for Case {
     }
 }
 
+/// A book's bytes for the eye, and their rows if there are as many as the head
+/// says.
+#[derive(Clone, Copy, Debug)]
+pub struct Shown<'a>(pub &'a [u8]);
+
+impl fmt::Display for Shown<'_> {
+    fn fmt(&self, f: &mut fmt::Formatter<'_>) -> fmt::Result {
+        write_bytes(f, "a book", self.0)?;
+        match Loose::of(self.0) {
+            Some(loose) => write_book(f, &loose.book),
+            None => Ok(()),
+        }
+    }
+}
+
 fn write_bytes(f: &mut fmt::Formatter<'_>, name: &str, bytes: &[u8]) -> fmt::Result {
     write!(f, "{name}, {} bytes: ", bytes.len())?;
     for byte in bytes.iter().take(2048) {
@@ -254,34 +235,43 @@ fn write_book(f: &mut fmt::Formatter<'_>, book: &Book) -> fmt::Result {
     row(f, TABLES[4], resources.collect())
 }
 
+/// The head in the bytes, of which there are enough for it, whatever else they
+/// are.
+pub(crate) fn head_in(bytes: &[u8]) -> Head {
+    let number = |at: usize| u16::from_le_bytes([bytes[at], bytes[at + 1]]);
+    Head {
+        mode: u16::from(bytes[5]),
+        users: u16::from(bytes[6]),
+        resources: number(7),
+        inner_vertices: number(9),
+        inner_tokens: number(11),
+        outer_vertices: number(13),
+        outer_tokens: number(15),
+    }
+}
+
 /// Bytes that are at least a head and the rows it asks for.
 #[derive(Clone, Debug)]
-struct Loose {
-    mark: [u8; 5],
-    book: Book,
+pub(crate) struct Loose {
+    /// The bytes before the mode.
+    mark: [u8; MODE_PLACE],
+    /// The book, sound or not.
+    pub(crate) book: Book,
     /// What comes after the rows.
     tail: Vec<u8>,
 }
 
 impl Loose {
-    fn of(bytes: &[u8]) -> Option<Loose> {
-        let number = |at: usize| u16::from_le_bytes([bytes[at], bytes[at + 1]]);
+    /// Those of a head and its rows, if there are so many bytes.
+    pub(crate) fn of(bytes: &[u8]) -> Option<Loose> {
         if bytes.len() < HEAD_LENGTH {
             return None;
         }
-        let head = Head {
-            mode: u16::from(bytes[5]),
-            users: u16::from(bytes[6]),
-            resources: number(7),
-            inner_vertices: number(9),
-            inner_tokens: number(11),
-            outer_vertices: number(13),
-            outer_tokens: number(15),
-        };
+        let head = head_in(bytes);
         let sections = bytes::sections(&head);
         let part = |k: usize| bytes.get(sections[k].clone());
         Some(Loose {
-            mark: bytes[..5].try_into().ok()?,
+            mark: bytes[..MODE_PLACE].try_into().ok()?,
             book: Book {
                 mode: head.mode,
                 users: head.users,
@@ -295,12 +285,39 @@ impl Loose {
         })
     }
 
+    /// Whether there is anything after the rows.
+    #[cfg(feature = "self-test")]
+    pub(crate) fn has_tail(&self) -> bool {
+        !self.tail.is_empty()
+    }
+
     fn bytes(&self) -> Vec<u8> {
         let mut bytes = bytes::write(&self.book);
-        bytes[..MARK.len()].copy_from_slice(&self.mark);
+        bytes[..MODE_PLACE].copy_from_slice(&self.mark);
         bytes.extend_from_slice(&self.tail);
         bytes
     }
+}
+
+/// The smallest bytes found that still differ: fewer behind the rows, then
+/// fewer rows and users; or fewer of any, where there is no head with its rows.
+pub fn smallest_bytes(given: &[u8], differs: impl Fn(&[u8]) -> bool) -> Vec<u8> {
+    let Some(loose) = Loose::of(given) else {
+        return fewer(given, differs);
+    };
+    let with_tail = |tail: &[u8]| Loose {
+        tail: tail.to_vec(),
+        ..loose.clone()
+    };
+    let loose = with_tail(&fewer(&loose.tail, |tail| {
+        differs(&with_tail(tail).bytes())
+    }));
+    let with_book = |book: &Book| Loose {
+        book: book.clone(),
+        ..loose.clone()
+    };
+    let book = smallest_book(loose.book.clone(), |book| differs(&with_book(book).bytes()));
+    with_book(&book).bytes()
 }
 
 /// As few of these as found that still differ: parts are left out, long ones

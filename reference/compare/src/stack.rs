@@ -27,7 +27,7 @@ pub fn taken(call: Call, lent: &Lent) -> Option<usize> {
     done.answer.ok()?;
     let depths = PAINTS.map(|paint| {
         let mut copy = lent.for_call(call);
-        let mut cells = [0; 2];
+        let mut cells = [0; 3];
         let (function, words) = words(call, &mut copy.lend(), &mut cells);
         // SAFETY: the words are the function's arguments, each pointer and
         // its length from a slice, or from a cell, that no one else uses.
@@ -40,7 +40,7 @@ pub fn taken(call: Call, lent: &Lent) -> Option<usize> {
 }
 
 /// The C function of a call and its arguments, each a word.
-fn words(call: Call, lent: &mut Lending, cells: &mut [usize; 2]) -> (*const (), Vec<usize>) {
+fn words(call: Call, lent: &mut Lending, cells: &mut [usize; 3]) -> (*const (), Vec<usize>) {
     fn pair<T>(slice: &mut [T]) -> [usize; 2] {
         [slice.as_mut_ptr() as usize, slice.len()]
     }
@@ -57,7 +57,7 @@ fn words(call: Call, lent: &mut Lending, cells: &mut [usize; 2]) -> (*const (), 
     let [book, buffer, set] = [&mut lent.book, &mut lent.buffer, &mut lent.set].map(|s| pair(s));
     let [list, answers] = [&mut lent.list, &mut lent.answers].map(|s| pair(s));
     let requests = pair(lent.requests);
-    let [one, two] = cells.each_mut().map(|cell| &raw mut *cell as usize);
+    let [one, two, three] = cells.each_mut().map(|cell| &raw mut *cell as usize);
     let word = usize::from;
     macro_rules! of {
         ($name:ident($($part:expr),*)) => {
@@ -66,8 +66,8 @@ fn words(call: Call, lent: &mut Lending, cells: &mut [usize; 2]) -> (*const (), 
     }
     match call {
         Call::Check => of!(fenstubble_check(tables)),
-        Call::Section(k) => of!(fenstubble_section(book, [k, one, two])),
-        Call::Read => of!(fenstubble_read(book, tables)),
+        Call::Section(k) => of!(fenstubble_section(book, [k, one, two, three])),
+        Call::Read => of!(fenstubble_read(book, tables, [one])),
         Call::Write => of!(fenstubble_write(tables, buffer, [one])),
         Call::Join => of!(fenstubble_join(tables, list, [one])),
         Call::Insert(..) => of!(fenstubble_insert(tables, list, [one], set)),

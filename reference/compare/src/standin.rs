@@ -7,9 +7,15 @@
 use std::cell::Cell;
 use std::slice::from_raw_parts_mut;
 
+use fenstubble_reference::book::SoundBook;
+use fenstubble_reference::bytes::{read, sections, COUNT_PLACES, WIDTHS};
 use fenstubble_reference::lent::Tables;
+use fenstubble_reference::refusal::Refusal;
+use fenstubble_reference::sets::UserSet;
+use fenstubble_reference::sound::limited;
 
 use crate::model::Model;
+use crate::shrink::{head_in, Loose};
 use crate::side::{Call, Given, Lending, Side, SET};
 
 /// What is wrong with the stand-in.
@@ -63,6 +69,29 @@ pub enum Fault {
     LongSet,
     /// An insert clears the last byte of its list.
     SetCleared,
+    /// The place told with that number is one row late.
+    LateRow(u8),
+    /// Of two equal rows the earlier one is told, with that number.
+    EarlierRow(u8),
+    /// A token into an own vertex comes before a missing vertex.
+    TokenFirst,
+    /// The length is judged before the counts.
+    LengthFirst,
+    /// The last count over its limit is told.
+    LastCount,
+    /// S1 is judged by sets and lists first, then by numbers and kinds.
+    SetsFirst,
+    /// S6 is judged by equal rows last.
+    EqualLast,
+    /// A group that is not made of what leads to it is told by a token.
+    TokenOfGroup,
+    /// A call of that name with that result leaves the cell for the place as it
+    /// was.
+    PlaceKept(&'static str, u16),
+    /// A place is cut to 16 bits.
+    PlaceCut,
+    /// Only the two lowest bytes of a place are written.
+    PlaceHalf,
 }
 
 thread_local! {
@@ -85,8 +114,15 @@ unsafe fn slice<'a, T>(start: *const T, length: usize) -> &'a mut [T] {
     from_raw_parts_mut(start.cast_mut(), length)
 }
 
-/// Makes the call on the model: the result, and the cells of an accepted one.
-fn reply(call: Call, lent: &mut Lending) -> (u16, [usize; 2]) {
+/// Makes the call on the model: the result, the cells of an accepted one, and
+/// the place.
+fn placed(call: Call, lent: &mut Lending) -> (u16, [usize; 2], usize) {
+    if !matches!(call, Call::Section(_)) {
+        CALLS.set(CALLS.get() + 1);
+        if planted(Fault::Every300th) && CALLS.get().is_multiple_of(300) {
+            return (13, [0, 0], 0);
+        }
+    }
     match Model::make(call, lent) {
         Ok(Ok(given)) => {
             let cells = match given {
@@ -96,14 +132,109 @@ fn reply(call: Call, lent: &mut Lending) -> (u16, [usize; 2]) {
                 Given::Orders(a) | Given::View(a) => [a.into(), 0],
                 Given::Chains(a, b) => [a.into(), b.into()],
             };
-            (0, cells)
+            (0, cells, 0)
         }
         Ok(Err(no)) => {
             let view = u16::from(no.view_number());
             let view = if planted(Fault::ViewLost) { 0 } else { view };
-            (u16::from(no.number) + 256 * view, [0, 0])
+            let no = no.place.map_or(no, |_| misplaced(lent.book, no));
+            (u16::from(no.number) + 256 * view, [0, 0], no.place_number())
         }
-        Err(odd) => (odd.code, [0, 0]),
+        Err(odd) => (odd.code, [0, 0], 0),
+    }
+}
+
+/// The same without the place.
+fn reply(call: Call, lent: &mut Lending) -> (u16, [usize; 2]) {
+    let (code, cells, _) = placed(call, lent);
+    (code, cells)
+}
+
+/// Puts the place into its cell.
+fn put_place(call: Call, code: u16, cell: &mut usize, place: usize) {
+    if planted(Fault::PlaceHalf) {
+        *cell = *cell & !0xFFFF | place & 0xFFFF;
+    } else if !planted(Fault::PlaceKept(call.name(), code)) {
+        *cell = place;
+    }
+}
+
+/// The refusal of a book's bytes with the fault that is planted.
+fn misplaced(bytes: &[u8], no: Refusal) -> Refusal {
+    elsewhere(bytes, no.number, no.place_number()).unwrap_or(no)
+}
+
+/// What is told in the place of that number and place, if anything.
+fn elsewhere(bytes: &[u8], number: u8, place: usize) -> Option<Refusal> {
+    let at = |place: usize| Some(Refusal::misread(number, place));
+    let loose = Loose::of(bytes);
+    if number == 23 {
+        return match FAULT.get() {
+            Fault::LengthFirst if loose.is_none_or(|loose| loose.has_tail()) => {
+                Some(Refusal::misread(24, bytes.len()))
+            }
+            Fault::LastCount => {
+                let head = head_in(bytes);
+                let last = limited(&head).iter().rposition(|one| one.count > one.most);
+                at(COUNT_PLACES[last?])
+            }
+            _ => None,
+        };
+    }
+    if planted(Fault::PlaceCut) {
+        return at(place % 65536);
+    }
+    if number < 31 {
+        return None;
+    }
+    let book = loose?.book;
+    let starts = sections(&book.head()).map(|section| section.start);
+    let row = |k: usize, row: usize| at(starts[k] + row * WIDTHS[k]);
+    let inner = &book.inner_tokens;
+    let outer = &book.outer_tokens;
+    let k = (0..5).rfind(|&k| starts[k] <= place)?;
+    let this = (place - starts[k]) / WIDTHS[k];
+    match (FAULT.get(), number, place) {
+        (Fault::LateRow(late), _, 0..65535) if late == number => row(k, this + 1),
+        (Fault::EarlierRow(early), _, _) if early == number => {
+            let same = |other: usize| {
+                let [one, two] = [this, other].map(|row| starts[k] + row * WIDTHS[k]);
+                bytes[one..one + WIDTHS[k]] == bytes[two..two + WIDTHS[k]]
+            };
+            row(k, (0..this).find(|&other| same(other))?)
+        }
+        (Fault::TokenFirst, 32, 65535) => {
+            let own = |sets: &[UserSet], to: usize| sets[to].size() == 1;
+            let entered = inner
+                .iter()
+                .position(|token| token.kind == 0 && own(&book.inner_vertices, token.to.index()));
+            row(1, entered?)
+        }
+        (Fault::SetsFirst, 31, _) => {
+            let strange = |set: &UserSet| !set.within(book.joined());
+            let list = book.resources.iter().position(|one| strange(&one.list));
+            book.inner_vertices
+                .iter()
+                .position(strange)
+                .and_then(|one| row(0, one))
+                .or_else(|| row(2, book.outer_vertices.iter().position(strange)?))
+                .or_else(|| row(4, list?))
+        }
+        (Fault::EqualLast, 36, _) => {
+            let sets = &book.inner_vertices;
+            let shut = inner.iter().position(|token| {
+                let ends = [token.from, token.to].map(|end| sets[end.index()]);
+                token.kind == 1 && (ends[0].size() != 1 || ends[0].within(ends[1]))
+            });
+            row(1, shut?)
+        }
+        (Fault::TokenOfGroup, 35, _) if k == 0 => {
+            row(1, inner.iter().position(|one| one.to.index() == this)?)
+        }
+        (Fault::TokenOfGroup, 35, _) => {
+            row(3, outer.iter().position(|one| one.to.index() == this)?)
+        }
+        _ => None,
     }
 }
 
@@ -180,10 +311,6 @@ macro_rules! with_tables {
                 },
                 ..nothing()
             };
-            CALLS.set(CALLS.get() + 1);
-            if planted(Fault::Every300th) && CALLS.get() % 300 == 0 {
-                return 13;
-            }
             let code = $body;
             touched(code, &mut $lent.tables)
         }
@@ -211,14 +338,16 @@ unsafe extern "C" fn fenstubble_section(
     k: usize,
     start: *mut usize,
     length: *mut usize,
+    place: *mut usize,
 ) -> u16 {
     let lent = &mut Lending {
         book: slice(book, book_len),
         ..nothing()
     };
     let call = Call::Section(k);
-    let (code, [from, count]) = reply(call, lent);
+    let (code, [from, count], at) = placed(call, lent);
     let from = from + usize::from(planted(Fault::LateSection));
+    put_place(call, code, &mut *place, at);
     put(
         call,
         code,
@@ -228,13 +357,16 @@ unsafe extern "C" fn fenstubble_section(
 }
 
 with_tables! {
-    fn fenstubble_read(book: *const u8, book_len: usize; mut lent;) {
+    fn fenstubble_read(book: *const u8, book_len: usize; mut lent; place: *mut usize) {
         lent.book = slice(book, book_len);
-        if planted(Fault::FewResources) && book_len > 7 && lent.book[7] > 2 {
+        let many = |book: SoundBook| book.book().resources.len() > 2;
+        if planted(Fault::FewResources) && read(lent.book).is_ok_and(many) {
             // 13 still comes first.
+            *place = 0;
             return reply(Call::Check, lent).0.max(12);
         }
-        let (code, _) = reply(Call::Read, lent);
+        let (code, _, at) = placed(Call::Read, lent);
+        put_place(Call::Read, code, &mut *place, at);
         let tables = &mut lent.tables;
         if code == 0 && planted(Fault::HeadForgotten) {
             lent.head[6] = 0;

@@ -64,6 +64,48 @@ fn faults_in_books() {
     }
 }
 
+#[test]
+fn faults_in_places() {
+    for (fault, engine, model) in [
+        (Fault::EarlierRow(33), "engine no 33 ", "model no 33 "),
+        (Fault::EarlierRow(36), "engine no 36 ", "model no 36 "),
+        (Fault::TokenFirst, "engine no 32 ", "model no 32 65535"),
+        (Fault::LengthFirst, "engine no 24 ", "model no 23 "),
+        (Fault::LastCount, "engine no 23 ", "model no 23 "),
+        (Fault::SetsFirst, "engine no 31 ", "model no 31 "),
+        (Fault::EqualLast, "engine no 36 ", "model no 36 "),
+        (Fault::TokenOfGroup, "engine no 35 ", "model no 35 "),
+        (Fault::PlaceCut, "engine no 24 ", "model no 24 "),
+        (Fault::PlaceHalf, "engine no 24 ", "model no 24 "),
+    ] {
+        misplaced(fault, engine, model);
+    }
+    for number in 31..=38 {
+        let [engine, model] = ["engine", "model"].map(|side| format!("{side} no {number} "));
+        misplaced(Fault::LateRow(number), &engine, &model);
+    }
+    for (call, code, model) in [
+        ("section", 0, "model Stretch("),
+        ("section", 1, "model no 1"),
+        ("read", 0, "model Nothing"),
+        ("read", 13, "model no 13"),
+    ] {
+        let engine = format!("engine result {code}, which goes with no cells");
+        let report = misplaced(Fault::PlaceKept(call, code), &engine, model);
+        assert!(report.call.starts_with(call), "{report}");
+    }
+}
+
+/// The report of the fault, which says what both sides told.
+fn misplaced(fault: Fault, engine: &str, model: &str) -> Report {
+    let report = found(fault, books::run);
+    for text in [engine, model] {
+        assert!(report.text.contains(text), "{fault:?}: {report}");
+        assert!(report.smallest.contains(text), "{fault:?}: {report}");
+    }
+    report
+}
+
 /// A cell that a refused call of that name puts 0 into is told.
 fn zeroed<S: std::fmt::Debug>(
     call: &'static str,

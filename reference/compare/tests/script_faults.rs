@@ -1,7 +1,7 @@
 //! The comparison of scripts can fail: each fault of the stand-in is found,
 //! told for what it is, and shrunk.
 
-use fenstubble_compare::desk::Desk;
+use fenstubble_compare::process::Process;
 use fenstubble_compare::report::{Bounds, Report};
 use fenstubble_compare::scripts;
 
@@ -12,8 +12,8 @@ const BOUNDS: Bounds = Bounds {
     time: None,
 };
 
-fn standin(fault: &str) -> Desk {
-    Desk::at(env!("CARGO_BIN_EXE_desk-standin"), &[fault])
+fn standin(fault: &str) -> Process {
+    Process::at(env!("CARGO_BIN_EXE_desk-standin"), &[fault])
 }
 
 fn found(fault: &str, bounds: Bounds) -> Report {
@@ -96,6 +96,6 @@ fn a_case_alone() {
 
 #[test]
 fn no_program() {
-    let report = scripts::run(&Desk::at("/no/such/program", &[]), BOUNDS).expect_err("none");
+    let report = scripts::run(&Process::at("/no/such/program", &[]), BOUNDS).expect_err("none");
     assert!(report.text.contains("it can not be started"), "{report}");
 }

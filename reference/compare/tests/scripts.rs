@@ -1,12 +1,12 @@
 //! A bounded comparison of the request programs.
 
-use fenstubble_compare::desk::Desk;
+use fenstubble_compare::process::Process;
 use fenstubble_compare::report::Bounds;
 use fenstubble_compare::scripts;
 
 #[test]
 fn scripts_alike() {
-    let desk = Desk::find().unwrap_or_else(|text| panic!("{text}"));
+    let desk = Process::desk().unwrap_or_else(|text| panic!("{text}"));
     let bounds = Bounds {
         seed: 1,
         first: 0,

@@ -7,7 +7,7 @@ use Rattle.rules.specs.Bytes.{Tables, tables, isBook}
 use Rattle.rules.specs.Refusals.{short}
 use Rattle.sound.proofs.Answers.{yes}
 use Rattle.theorems.proofs.WriteLaws.{book-bytes}
-use Rattle.book.proofs.Answers.{no, loadable, read-short, read-unsound, read-given}
+use Rattle.book.proofs.Answers.{no, book-nothing, loadable, read-short, read-broken, read-given}
 use Rattle.book.proofs.read.Statement.{statement}
 use Rattle.book.proofs.read.Tie as tie
 
@@ -27,8 +27,11 @@ left c =
 long : (c : tie.Else1) → short (lent (entry c)) ≡ false
 long c = not-true _ (yes (c .before .long-enough .ensures) (c .if1 .left))
 
-is : (c : tie.Else2) → isBook (entry (c .before .before) .args .bytes .now) ≡ true
-is c = yes (c .before .is-book .ensures) (c .if2 .left)
+abbrev passed : tie.After-enum-told → tie.Else1
+passed c = c .before .before .before
+
+is : (c : tie.After-enum-told) → isBook (entry (passed c) .args .bytes .now) ≡ true
+is c = book-nothing _ (c .before .before .first-fault .ensures) (c .enum-told .given .1)
 
 -- ---- the needs
 
@@ -53,8 +56,11 @@ same-length-5 c = search needs
 returns : tie.Need-returns
 returns c = read-short _ _ (not-false _ (no (c .before .long-enough .ensures) (c .if1 .taken)))
 
-is-book-requires : tie.Need-is-book-requires
-is-book-requires c κs = search needs
+first-fault-requires : tie.Need-first-fault-requires
+first-fault-requires c κs = search needs
+
+enum-known-w : tie.Need-enum-known-w
+enum-known-w c = search needs
 
 same-length-6 : tie.Need-same-length-6
 same-length-6 c = search needs
@@ -72,7 +78,12 @@ same-length-10 : tie.Need-same-length-10
 same-length-10 c = search needs
 
 returns-2 : tie.Need-returns-2
-returns-2 c = read-unsound _ _ (long (c .before .before)) (no (c .before .is-book .ensures) (c .if2 .taken))
+returns-2 c =
+    let f = c .before .before .before in
+    read-broken _ _ (long (f .before)) (f .first-fault .ensures) (c .before .w .given .1)
+
+enum-told : tie.Need-enum-told
+enum-told c = search needs
 
 head-in-requires : tie.Need-head-in-requires
 head-in-requires c κs = book-bytes _ (is c) .long
@@ -80,7 +91,7 @@ head-in-requires c κs = book-bytes _ (is c) .long
 load-requires : tie.Need-load-requires
 load-requires c κs =
     let h = c .before .before .before .before .before in
-    loadable _ _ _ (h .head-in .ensures) (long (h .before .before .before)) (is (h .before))
+    loadable _ _ _ (h .head-in .ensures) (long (passed (h .before))) (is (h .before))
 
 same-length-11 : tie.Need-same-length-11
 same-length-11 c = search needs
@@ -101,7 +112,7 @@ returns-3 : tie.Need-returns-3
 returns-3 c =
     let l = c .before .before .before .before .before .before .before .before .before .before in
     let h = l .before .before .before .before .before .before in
-    read-given _ _ _ (left l) (long (h .before .before .before)) (is (h .before)) (h .head-in .ensures) (l .load .ensures)
+    read-given _ _ _ (left l) (long (passed (h .before))) (is (h .before)) (h .head-in .ensures) (l .load .ensures)
 
 pub read-spec : {M : Type 1} → statement M
 read-spec =
@@ -114,13 +125,15 @@ read-spec =
     same-length-4
     same-length-5
     returns
-    is-book-requires
+    first-fault-requires
+    enum-known-w
     same-length-6
     same-length-7
     same-length-8
     same-length-9
     same-length-10
     returns-2
+    enum-told
     head-in-requires
     load-requires
     same-length-11

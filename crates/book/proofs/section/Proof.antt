@@ -7,19 +7,21 @@ use lib.ListN.{length}
 use borrow.Author.Needs.{needs}
 use Rattle.rules.specs.Bytes.{headIn, start, isBook}
 use Rattle.rules.specs.declared.Head.{Head}
-use Rattle.sound.proofs.Answers.{yes}
 use Rattle.theorems.proofs.WriteLaws.{book-bytes}
-use Rattle.book.proofs.Answers.{no, section-within, section-unsound, section-none, section-given}
+use Rattle.book.proofs.Answers.{book-nothing, section-within, section-broken, section-none, section-given}
 use Rattle.book.proofs.section.Statement.{statement}
 use Rattle.book.proofs.section.Tie as tie
 
 -- ---- the bytes are a book, and the two starts are its own
 
-is : (c : tie.Else1) → isBook (c .before .before .before .args .bytes .now) ≡ true
-is c = yes (c .before .is-book .ensures) (c .if1 .left)
+is : (c : tie.After-enum-told) → isBook (c .before .before .before .before .args .bytes .now) ≡ true
+is c = book-nothing _ (c .before .before .first-fault .ensures) (c .enum-told .given .1)
+
+abbrev passed : tie.After-start-of2 → tie.After-enum-told
+passed c = c .before .before .before .before
 
 abbrev entry : tie.After-start-of2 → tie.Start
-entry c = c .before .before .before .before .before .before .before
+entry c = passed c .before .before .before .before
 
 from : (c : tie.After-start-of2) → c .before .start-of .result ≡ start (headIn (entry c .args .bytes .now)) (entry c .args .k)
 from c = c .before .start-of .ensures ∙ ap (λ (h : Head). start h (entry c .args .k)) (c .before .before .head-in .ensures)
@@ -28,12 +30,21 @@ to : (c : tie.After-start-of2) → c .start-of2 .result ≡ start (headIn (entry
 to c = c .start-of2 .ensures ∙ ap (λ (h : Head). start h (entry c .args .k + 1)) (c .before .before .head-in .ensures)
 
 within : (c : tie.After-start-of2) → (c .before .start-of .result ≤ c .start-of2 .result) × (c .start-of2 .result ≤ length (entry c .args .bytes .now))
-within c = section-within _ _ _ _ (is (c .before .before .before .before)) (from c) (to c)
+within c = section-within _ _ _ _ (is (passed c)) (from c) (to c)
 
 -- ---- the needs
 
-is-book-requires : tie.Need-is-book-requires
-is-book-requires c κs = search needs
+first-fault-requires : tie.Need-first-fault-requires
+first-fault-requires c κs = search needs
+
+enum-known-w : tie.Need-enum-known-w
+enum-known-w c = search needs
+
+fault-number-requires : tie.Need-fault-number-requires
+fault-number-requires c κs = search needs
+
+fault-place-requires : tie.Need-fault-place-requires
+fault-place-requires c κs = search needs
 
 sub-result : tie.Need-sub-result
 sub-result c = search needs
@@ -45,7 +56,12 @@ part-result-end : tie.Need-part-result-end
 part-result-end c = search needs
 
 returns : tie.Need-returns
-returns c = section-unsound _ _ (no (c .before .before .is-book .ensures) (c .before .if1 .taken))
+returns c =
+    let p = c .before in
+    section-broken _ _ (p .before .before .before .before .before .first-fault .ensures) (p .before .before .before .w .given .1) (p .before .fault-number .ensures) (p .fault-place .ensures)
+
+enum-told : tie.Need-enum-told
+enum-told c = search needs
 
 sub-result-2 : tie.Need-sub-result-2
 sub-result-2 c = search needs
@@ -83,17 +99,21 @@ part-result-end-3 c = omega (arith, within c)
 returns-3 : tie.Need-returns-3
 returns-3 c =
     let e = c .before in
-    section-given _ _ _ _ (is (e .before .before .before .before)) (e .before .before .before .if2 .left) (from e) (to e)
+    section-given _ _ _ _ (is (passed e)) (e .before .before .before .if1 .left) (from e) (to e)
 
 pub section-spec : {M : Type 1} → statement M
 section-spec =
     tie.close
     (tie.spec
-    is-book-requires
+    first-fault-requires
+    enum-known-w
+    fault-number-requires
+    fault-place-requires
     sub-result
     part-result-start
     part-result-end
     returns
+    enum-told
     sub-result-2
     part-result-start-2
     part-result-end-2

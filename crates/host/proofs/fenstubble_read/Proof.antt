@@ -21,8 +21,11 @@ read-requires c κs = search needs
 enum-known-a : tie.Need-enum-known-a
 enum-known-a c = search needs
 
-refusal-number-requires : tie.Need-refusal-number-requires
-refusal-number-requires c κs = search needs
+denial-place-requires : tie.Need-denial-place-requires
+denial-place-requires c κs = search needs
+
+denial-number-requires : tie.Need-denial-number-requires
+denial-number-requires c κs = search needs
 
 enum-known-a-2 : tie.Need-enum-known-a-2
 enum-known-a-2 c = search needs
@@ -47,8 +50,11 @@ same-length-5 c = search needs
 
 returns-2 : tie.Need-returns-2
 returns-2 c =
-    let r = c .before .before .before .before .before .before .before .before .before .before .before .before .before .before in
-    read-refused _ _ _ {u = left r} (omega (arith, r .before .before .before .before .before .before .if1 .left)) (r .read .ensures) (c .before .before .a .given .1) (c .refusal-number .ensures)
+    let p = c .before in
+    let r = p .before .before .before .before .before .before .before .before .before .before .before .before .before .before in
+    read-refused _ _ _ {u = left r} (omega (arith, r .before .before .before .before .before .before .if1 .left)) (r .read .ensures) (p .before .before .a .given .1)
+    (c .denial-number .ensures)
+    (p .denial-place .ensures)
 
 same-length-6 : tie.Need-same-length-6
 same-length-6 c = search needs
@@ -81,7 +87,8 @@ fenstubble-read-spec =
     returns
     read-requires
     enum-known-a
-    refusal-number-requires
+    denial-place-requires
+    denial-number-requires
     enum-known-a-2
     put-head-requires
     same-length

@@ -11,7 +11,7 @@ use Rattle.host.proofs.fenstubble_section.Statement.{statement}
 use Rattle.host.proofs.fenstubble_section.Tie as tie
 
 -- the cell is 0
-passed : (c : tie.Else1) → let s = c .before .before .before .before in (isBook (s .args .bytes .now) ≡ true) × (s .args .k < 5)
+passed : (c : tie.Else1) → let s = c .before .before .before .before .before in (isBook (s .args .bytes .now) ≡ true) × (s .args .k < 5)
 passed c = section-passed _ _ (c .before .section .ensures) (c .if1 .left)
 
 section-requires : tie.Need-section-requires

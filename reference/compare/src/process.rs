@@ -1,4 +1,4 @@
-//! The engine's request program as a process: a script in, its output taken.
+//! A program of the engine as a process: its input in, its output taken.
 
 use std::env;
 use std::io::{Read, Write};
@@ -8,50 +8,67 @@ use std::sync::mpsc;
 use std::thread;
 use std::time::Duration;
 
-/// Where the program is once it is proved, from this package.
-const DEFAULT: &str = "../../target/bin/desk";
-
-/// How long a program may take for one script before it counts as one that
+/// How long a program may take for one input before it counts as one that
 /// does not end.
 const PATIENCE: Duration = Duration::from_secs(120);
 
-/// A request program.
+/// A program.
 #[derive(Clone, Debug, PartialEq, Eq)]
-pub struct Desk {
+pub struct Process {
     path: PathBuf,
     arguments: Vec<String>,
+    /// Whether it may end with another status than 0.
+    any_status: bool,
 }
 
-/// What a program made of a script.
+/// What a program made of its input.
 #[derive(Clone, Debug, PartialEq, Eq)]
 pub struct Reply {
     /// Its output.
     pub output: Vec<u8>,
-    /// What is wrong with its end: a program ends by itself with status 0,
-    /// whatever the script.
+    /// What is wrong with its end: a program ends by itself, whatever its input.
     pub fault: Option<String>,
 }
 
-impl Desk {
-    /// The engine's program: the one that the environment variable
-    /// `FENSTUBBLE_DESK` names, else `target/bin/desk`.
-    pub fn find() -> Result<Desk, String> {
-        let named = env::var_os("FENSTUBBLE_DESK").map(PathBuf::from);
-        let path = match &named {
-            Some(path) => path.clone(),
-            None => Path::new(env!("CARGO_MANIFEST_DIR")).join(DEFAULT),
+impl Process {
+    /// The engine's request program, which ends with status 0: the one that the
+    /// environment variable `FENSTUBBLE_DESK` names, else `target/bin/desk`.
+    pub fn desk() -> Result<Process, String> {
+        Process::find("FENSTUBBLE_DESK", "desk")
+    }
+
+    /// The engine's check program, whose status is not fixed: the one that the
+    /// environment variable `FENSTUBBLE_INSPECT` names, else
+    /// `target/bin/inspect`.
+    pub fn inspect() -> Result<Process, String> {
+        Ok(Process::find("FENSTUBBLE_INSPECT", "inspect")?.with_any_status())
+    }
+
+    fn find(variable: &str, name: &str) -> Result<Process, String> {
+        let path = match env::var_os(variable) {
+            Some(path) => PathBuf::from(path),
+            // Where it is once it is proved, from this package.
+            None => Path::new(env!("CARGO_MANIFEST_DIR"))
+                .join("../../target/bin")
+                .join(name),
         };
-        if !path.is_file() {
-            return Err(match named {
-                Some(path) => format!("there is no program {}", path.display()),
-                None => {
-                    "the engine's program, target/bin/desk, is not there (`rt check desk` makes \
-                         it; FENSTUBBLE_DESK can name another)"
-                        .into()
-                }
-            });
+        match (path.is_file(), env::var_os(variable)) {
+            (true, _) => Ok(Process::at(path, &[])),
+            (false, Some(_)) => Err(format!("there is no program {}", path.display())),
+            (false, None) => Err(format!(
+                "the engine's program, target/bin/{name}, is not there (`rt check {name}` makes \
+                 it; {variable} can name another)"
+            )),
         }
-        Ok(Desk::at(path, &[]))
+    }
+
+    /// The same, which may end with any status.
+    #[must_use]
+    pub fn with_any_status(self) -> Process {
+        Process {
+            any_status: true,
+            ..self
+        }
     }
 
     /// Where it is.
@@ -59,11 +76,13 @@ impl Desk {
         &self.path
     }
 
-    /// The program at that path, started with these arguments.
-    pub fn at(path: impl Into<PathBuf>, arguments: &[&str]) -> Desk {
-        Desk {
+    /// The program at that path, started with these arguments, which ends with
+    /// status 0.
+    pub fn at(path: impl Into<PathBuf>, arguments: &[&str]) -> Process {
+        Process {
             path: path.into(),
             arguments: arguments.iter().map(|&word| word.into()).collect(),
+            any_status: false,
         }
     }
 
@@ -103,7 +122,7 @@ impl Desk {
             match receiver.recv_timeout(PATIENCE) {
                 Ok(Ok(output)) if output.len() < most => Reply {
                     output,
-                    fault: ended(&mut child),
+                    fault: ended(&mut child, self.any_status),
                 },
                 Ok(Ok(output)) => stopped(&mut child, output, "it writes without end"),
                 Ok(Err(_)) => stopped(&mut child, Vec::new(), "its output can not be read"),
@@ -114,9 +133,9 @@ impl Desk {
 }
 
 /// What is wrong with the status of a program that has written all it has to.
-fn ended(child: &mut Child) -> Option<String> {
+fn ended(child: &mut Child, any_status: bool) -> Option<String> {
     match child.wait() {
-        Ok(status) if status.success() => None,
+        Ok(status) if status.success() || (any_status && status.code().is_some()) => None,
         Ok(status) => Some(format!("it ended with {status}")),
         Err(error) => Some(format!("its end is not known: {error}")),
     }
