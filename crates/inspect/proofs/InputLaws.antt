@@ -6,7 +6,7 @@ use mathlib.Core.Path.{_≡_, refl, sym, ap, _∙_}
 use native.Mathlib.Omega.{arith}
 use lib.ListN.{length, take, drop, length-append, length-take, length-drop}
 use lib.Seq.{take-nil, take-all, take-add, take-append-le, length-take-le}
-use Rattle.inspect.specs.Input.{Unless, Over, Holds, SoFar, Reads, Counts}
+use Rattle.inspect.specs.Input.{longest, Unless, Over, FrontOf, Holds, SoFar, Reads, Counts}
 use Rattle.inspect.specs.declared.input.Came.{Came}
 
 -- what did not fail
@@ -90,3 +90,11 @@ going-on c input over e s = go (c .failed) refl s
     go : (b : Bool) → c .failed ≡ b → Unless b (SoFar c input) → SoFar c input
     go true f s = absurd (true≢false (sym (over f) ∙ e))
     go false f s = s
+
+-- ---- the front of all that came
+
+pub front-of : (c : Came) (input came : List ℕ) → length input ≡ longest + 1 → Holds c input came → FrontOf (take (c .kept) input) (c .total) came
+front-of c input came e h = record { front≡ = h .front ∙ ap (λ (n : ℕ). take n came) e; whole = h .whole }
+
+pub front-short : (c : Came) (input came : List ℕ) → Holds c input came → length (take (c .kept) input) ≤ c .total
+front-short c input came h = omega (arith, ap length (h .front), length-take (length input) came, h .whole)

@@ -9,6 +9,10 @@ use Rattle.inspect.specs.declared.input.Came.{Came}
 use Rattle.inspect.specs.declared.input.Got.{Got}
 use Rattle.inspect.specs.declared.input.Got.the-variants.{Bytes, End, Failed}
 
+-- RULES 9.4: "no book is longer"
+abbrev pub longest : ℕ
+longest = 46609
+
 -- unless something failed
 abbrev pub Unless : Bool → Type 0 → Type 0
 Unless true P = Unit {0}
@@ -51,3 +55,8 @@ pub record Counts (c r : Came) : Type 0 where
 pub record AllCame (c : Came) (input : List ℕ) : Type 0 where
   pub soFar : SoFar c input
   pub ended : c .ended ≡ true
+
+-- the front of an input, a byte more than any book has, and how long the whole is
+pub record FrontOf (front : List ℕ) (total : ℕ) (came : List ℕ) : Type 0 where
+  pub front≡ : front ≡ take (longest + 1) came
+  pub whole : total ≡ length came

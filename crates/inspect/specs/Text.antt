@@ -1,11 +1,12 @@
 -- What the check program prints: RULES 15.2 and 15.3. The words of the second line are the program's own. 10 is the newline, 32 the space, 58 the colon.
 -- Assumes nothing.
 use Prim.Native.Nat.{ℕ, _+_, _≤_}
+use mathlib.Core.Path.{_≡_}
 use mathlib.Core.Bool.{cond}
 use mathlib.Core.List.{List, _∷_, _++_}
 use mathlib.Core.Option.{Option, some, none}
 use lib.Dec.{eqb, ltb}
-use lib.ListN.{getD}
+use lib.ListN.{length, take, getD}
 use Rattle.rules.specs.Lists.{first}
 use Rattle.rules.specs.Bytes.{faultNumber, faultPlace, limitsOf, countPlaces, start, headIn, fault}
 use Rattle.rules.specs.declared.Head.{Head}
@@ -16,7 +17,10 @@ use Rattle.rules.specs.declared.Letter.the-variants.{S1, S2, S3, S4, S5, S6, S7
 use Rattle.rules.specs.declared.Fault.{Fault}
 use Rattle.rules.specs.declared.Fault.the-variants.{Mark, Version, Mode, Count, Length, Rule}
 use Rattle.lines.specs.Text.{bytes}
-use Rattle.lines.specs.Answer.{numeral}
+use Rattle.lines.specs.Answer.{numeral, Puts}
+use Rattle.inspect.specs.Input.{FrontOf}
+use Rattle.inspect.specs.declared.Reply.{Reply}
+use Rattle.inspect.specs.declared.Reply.the-variants.{To, Failed}
 
 -- ---- a sound book: "eight lines, `sound` and the head"
 
@@ -136,3 +140,22 @@ grown n Mode = Mode
 grown n (Count place) = Count place
 grown n (Length m) = Length n
 grown n (Rule l s at) = Rule l s at
+
+abbrev pub grownBy : ℕ → Option Fault → Option Fault
+grownBy n none = none
+grownBy n (some f) = some (grown n f)
+
+-- for any input with this front and this length
+abbrev pub Answers : List ℕ → ℕ → List ℕ → ℕ → List ℕ → Type 0
+Answers front total out end now = (came : List ℕ) → FrontOf front total came → Puts (checkText came) 0 out end now
+
+-- ---- the program: what it writes out is the text for all that came
+
+pub record Told (end : ℕ) (out : List ℕ) : Type 0 where
+  pub came : List ℕ
+  pub within : end ≤ length out
+  pub text : take end out ≡ checkText came
+
+abbrev pub Answered : Reply → List ℕ → Type 0
+Answered (To end) out = Told end out
+Answered Failed out = Unit {0}

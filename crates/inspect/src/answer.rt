@@ -2,6 +2,9 @@
 use crate::text::put_number;
 use crate::text::put_words;
 use crate::words::put_sentence;
+use book::Wrong;
+use book::first_fault;
+use book::head_in;
 use rules::Fault;
 use rules::Head;
 use rules::fault_number;
@@ -11,7 +14,7 @@ ghost use mathlib.Core.List.{_++_};
 ghost use Prim.Native.Nat.{_+_, _≤_};
 ghost use lib.ListN.{length};
 ghost use Rattle.lines.specs.Answer.{Puts};
-ghost use Rattle.inspect.specs.Text.{Headed, grown, modeText, peopleText, layersText, headText, refusedText, brokenText, shortText};
+ghost use Rattle.inspect.specs.Text.{Headed, grown, modeText, peopleText, layersText, headText, refusedText, brokenText, shortText, Answers};
 
 // The fault of an input of which only the front was judged: a wrong length is that of the whole.
 fn grow(f: Fault, total: usize) -> Fault
@@ -99,4 +102,21 @@ fn put_short(n: usize, out: &mut [u8]) -> usize
 {
     let end = put_refused(Fault::Length(n), out);
     put_words(b"wrong length: a header has 17 bytes\n", out, end)
+}
+
+// The answer to an input of which only the front may be at hand: as many bytes as the longest book has, and one more.
+pub fn put_check(front: &[u8], total: usize, out: &mut [u8]) -> usize
+    requires { ⌜ length (now front) ≤ total ⌝ }
+    requires { ⌜ 512 ≤ length (now out) ⌝ }
+    ensures { λ r. ⌜ Answers (now (front .entry)) total (now (out .entry)) r (now (out .exit)) ⌝ }
+{
+    if front.len() < 17 {
+        return put_short(total, out);
+    }
+    let h = head_in(front);
+    let w = first_fault(front);
+    match w {
+        Wrong::Nothing => put_head(h, out),
+        Wrong::First(f) => put_broken(h, grow(f, total), out),
+    }
 }

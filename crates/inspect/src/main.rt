@@ -9,4 +9,40 @@ mod output;
 mod text;
 mod words;
 
-fn main() {}
+use answer::put_check;
+use input::read_all;
+use output::write_out;
+ghost use mathlib.Core.Path.{_≡_};
+ghost use Prim.Native.Nat.{_≤_};
+ghost use lib.ListN.{length};
+ghost use Rattle.inspect.specs.Text.{Answered};
+
+// Where the answer's text ends in the output buffer; Failed where the input can't be read.
+enum Reply {
+    To(usize),
+    Failed,
+}
+
+// Reads the input and puts the answer into the output buffer.
+fn check(input: &mut [u8], out: &mut [u8]) -> Reply
+    requires { ⌜ 46610 ≡ length (now input) ⌝ }
+    requires { ⌜ 512 ≤ length (now out) ⌝ }
+    ensures { λ r. ⌜ Answered r (now (out .exit)) ⌝ }
+{
+    let c = read_all(input);
+    if c.failed {
+        return Reply::Failed;
+    }
+    let kept = c.kept;
+    Reply::To(put_check(&input[..kept], c.total, out))
+}
+
+fn main() {
+    let mut input = memory::input_bytes();
+    let mut out = memory::output_bytes();
+    let a = check(&mut input, &mut out);
+    let Reply::To(end) = a else {
+        return;
+    };
+    write_out(&out[..end]);
+}
