@@ -25,7 +25,7 @@ fn put_digits(n: u64, out: &mut [u8], at: usize) -> usize
 }
 
 // A number, and the byte behind it.
-fn put_numeral(n: u64, last: u8, out: &mut [u8], at: usize) -> usize
+pub fn put_numeral(n: u64, last: u8, out: &mut [u8], at: usize) -> usize
     requires { ⌜ at + length (numeral n last) ≤ length (now out) ⌝ }
     ensures { λ r. ⌜ Puts (numeral n last) at (now (out .entry)) r (now (out .exit)) ⌝ }
 {

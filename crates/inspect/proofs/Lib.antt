@@ -1,0 +1,4 @@
+pub mod InputLaws
+pub mod TextLaws
+pub mod LongLaws
+pub mod CheckLaws

@@ -1,0 +1,58 @@
+-- `inspect::check` meets its contract. Assumes nothing.
+use Rattle.inspect.proofs.CheckLaws.{put-first, put-within}
+use Rattle.inspect.proofs.InputLaws.{unless-not, front-of, front-short}
+use lib.Seq.{length-take-le}
+use mathlib.Core.Path.{sym}
+use Rattle.inspect.specs.Input.{SoFar}
+use native.Mathlib.Omega.{arith}
+use borrow.Author.Needs.{needs}
+use Rattle.inspect.proofs.check.Statement.{statement}
+use Rattle.inspect.proofs.check.Tie as tie
+
+read-all-requires : tie.Need-read-all-requires
+read-all-requires c κs = search needs
+
+same-length : tie.Need-same-length
+same-length c = search needs
+
+returns : tie.Need-returns
+returns c = search needs
+
+-- what was read is all that came
+held : (c : tie.Else1) → SoFar (c .before .before .before .read-all .result) (c .before .before .before .read-all .last .0)
+held c = unless-not (c .if1 .left) (c .before .before .before .read-all .ensures) .soFar
+
+slice-reshare-prefix-put-check : tie.Need-slice-reshare-prefix-put-check
+slice-reshare-prefix-put-check c = held c .holds .within
+
+slice-aggregate-put-check : tie.Need-slice-aggregate-put-check
+slice-aggregate-put-check c = sym (length-take-le _ _ (held (c .before) .holds .within))
+
+put-check-requires : tie.Need-put-check-requires
+put-check-requires c κs = (front-short _ _ _ (held (c .before .before) .holds), search needs)
+
+same-length-2 : tie.Need-same-length-2
+same-length-2 c = search needs
+
+same-length-3 : tie.Need-same-length-3
+same-length-3 c = search needs
+
+returns-2 : tie.Need-returns-2
+returns-2 c =
+    let so = held (c .before .before .before .before .before) in
+    let p = c .before .before .put-check .ensures (so .came) (front-of _ _ _ (omega (arith, c .before .before .before .before .before .before .before .before .before .before .before .before .pre .0, c .before .before .before .before .before .before .before .before .read-all .kept)) (so .holds)) in
+    record { came = so .came; within = put-within p; text = put-first p }
+
+pub check-spec : {M : Type 1} → statement M
+check-spec =
+    tie.close
+    (tie.spec
+    read-all-requires
+    same-length
+    returns
+    slice-reshare-prefix-put-check
+    slice-aggregate-put-check
+    put-check-requires
+    same-length-2
+    same-length-3
+    returns-2)

@@ -1,0 +1,161 @@
+-- What the check program prints: RULES 15.2 and 15.3. The words of the second line are the program's own. 10 is the newline, 32 the space, 58 the colon.
+-- Assumes nothing.
+use Prim.Native.Nat.{ℕ, _+_, _≤_}
+use mathlib.Core.Path.{_≡_}
+use mathlib.Core.Bool.{cond}
+use mathlib.Core.List.{List, _∷_, _++_}
+use mathlib.Core.Option.{Option, some, none}
+use lib.Dec.{eqb, ltb}
+use lib.ListN.{length, take, getD}
+use Rattle.rules.specs.Lists.{first}
+use Rattle.rules.specs.Bytes.{faultNumber, faultPlace, limitsOf, countPlaces, start, headIn, fault}
+use Rattle.rules.specs.declared.Head.{Head}
+use Rattle.rules.specs.declared.Spot.{Spot}
+use Rattle.rules.specs.declared.Spot.the-variants.{Row, Missing}
+use Rattle.rules.specs.declared.Letter.{Letter}
+use Rattle.rules.specs.declared.Letter.the-variants.{S1, S2, S3, S4, S5, S6, S7, S8}
+use Rattle.rules.specs.declared.Fault.{Fault}
+use Rattle.rules.specs.declared.Fault.the-variants.{Mark, Version, Mode, Count, Length, Rule}
+use Rattle.lines.specs.Text.{bytes}
+use Rattle.lines.specs.Answer.{numeral, Puts}
+use Rattle.inspect.specs.Input.{FrontOf}
+use Rattle.inspect.specs.declared.Reply.{Reply}
+use Rattle.inspect.specs.declared.Reply.the-variants.{To, Failed}
+
+-- ---- a sound book: "eight lines, `sound` and the head"
+
+unfoldable pub modeText : ℕ → List ℕ
+modeText m = cond (eqb m 0) (bytes "mode full\n") (bytes "mode delta\n")
+
+unfoldable pub peopleText : Head → List ℕ
+peopleText h =
+    bytes "sound\n"
+    ++ (modeText (h .mode .0)
+    ++ ((bytes "users " ++ numeral (h .users .0) 10)
+    ++ (bytes "folders " ++ numeral (h .resources .0) 10)))
+
+unfoldable pub layersText : Head → List ℕ
+layersText h =
+    (bytes "inner vertices " ++ numeral (h .«inner_vertices» .0) 10)
+    ++ ((bytes "inner tokens " ++ numeral (h .«inner_tokens» .0) 10)
+    ++ ((bytes "outer vertices " ++ numeral (h .«outer_vertices» .0) 10)
+    ++ (bytes "outer tokens " ++ numeral (h .«outer_tokens» .0) 10)))
+
+unfoldable pub headText : Head → List ℕ
+headText h = peopleText h ++ layersText h
+
+-- ---- any other bytes: "the first is `no K PLACE`, the number and the place of 9.10"
+
+unfoldable pub refusedText : Fault → List ℕ
+refusedText f = (bytes "no " ++ numeral (faultNumber f) 32) ++ numeral (faultPlace f) 10
+
+-- "for 23 the count and its limit", by the byte where the count starts
+unfoldable pub limitAt : Head → ℕ → ℕ
+limitAt h place = getD (limitsOf h) (first (eqb place) countPlaces) (0, 0) .1
+
+unfoldable pub countWords : ℕ → List ℕ
+countWords place =
+    cond (eqb place 6) (bytes "the count of users is over its limit: ")
+    (cond (eqb place 7) (bytes "the count of folders is over its limit: ")
+    (cond (eqb place 9) (bytes "the count of inner vertices is over its limit, users + folders: ")
+    (cond (eqb place 11) (bytes "the count of inner tokens is over its limit: ")
+    (cond (eqb place 13) (bytes "the count of outer vertices is over its limit, users + 448: ")
+    (bytes "the count of outer tokens is over its limit: ")))))
+
+unfoldable pub countText : Head → ℕ → List ℕ
+countText h place = countWords place ++ numeral (limitAt h place) 10
+
+-- "for 24 the length that header and rows have"
+unfoldable pub headerText : List ℕ
+headerText = bytes "wrong length: a header has 17 bytes\n"
+
+unfoldable pub lengthText : Head → List ℕ
+lengthText h = (bytes "wrong length: by its counts the book has " ++ numeral (start h 5) 32) ++ bytes "bytes\n"
+
+-- "for 31 to 38 the section, the number of the row in it, and the rule"
+unfoldable pub sectionWords : ℕ → List ℕ
+sectionWords k =
+    cond (eqb k 0) (bytes "inner vertex row ")
+    (cond (eqb k 1) (bytes "inner token row ")
+    (cond (eqb k 2) (bytes "outer vertex row ")
+    (cond (eqb k 3) (bytes "outer token row ")
+    (bytes "folder row "))))
+
+unfoldable pub rowText : ℕ → ℕ → List ℕ
+rowText k i = sectionWords k ++ numeral i 58
+
+abbrev pub spotText : Spot → List ℕ
+spotText (Row k i) = rowText k i
+spotText Missing = bytes "a joined user has no own vertex:"
+
+abbrev pub ruleText : Letter → List ℕ
+ruleText S1 = bytes " S1, numbers: kinds are 0 or 1, vertex numbers belong to vertices of that layer, sets and lists name only users who have joined\n"
+ruleText S2 = bytes " S2, own vertices: each joined user has one in each layer, no kind 0 or outer token leads to one, and no inner set is empty\n"
+ruleText S3 = bytes " S3, sets differ: two vertices of one layer never have the same set\n"
+ruleText S4 = bytes " S4, tokens rise: a kind 0 or outer token starts at a set with somebody in it, a proper part of the set it leads to\n"
+ruleText S5 = bytes " S5, groups are made of what leads to them: a group's set is all the users in the sets from which kind 0 or outer tokens lead to it\n"
+ruleText S6 = bytes " S6, kind 1 tokens start at a user's own vertex and lead to a set that does not name this user, and no token row stands twice\n"
+ruleText S7 = bytes " S7, lists are held: everybody on a folder's list holds its inner vertex\n"
+ruleText S8 = bytes " S8, locks fit: a folder's outer vertex has its list as set, and in mode delta there is none exactly where the holders are the list\n"
+
+-- "the second says in English what is wrong there"
+abbrev pub sentence : Head → Fault → List ℕ
+sentence h Mark = bytes "the mark is not 54 4B 42 (\"TKB\"): this is no book\n"
+sentence h Version = bytes "the version is not 1, the only one that can be read\n"
+sentence h Mode = bytes "the mode is neither 0 (full) nor 1 (delta)\n"
+sentence h (Count place) = countText h place
+sentence h (Length n) = cond (ltb n 17) headerText (lengthText h)
+sentence h (Rule l s at) = spotText s ++ ruleText l
+
+unfoldable pub brokenText : Head → Fault → List ℕ
+brokenText h f = refusedText f ++ sentence h f
+
+unfoldable pub answerText : Head → Option Fault → List ℕ
+answerText h none = headText h
+answerText h (some f) = brokenText h f
+
+-- of the bytes that came in
+unfoldable pub checkText : List ℕ → List ℕ
+checkText bs = answerText (headIn bs) (fault bs)
+
+-- ---- parts of the way there
+
+-- the bytes have a header
+abbrev pub Headed : Fault → Type 0
+Headed Mark = Unit {0}
+Headed Version = Unit {0}
+Headed Mode = Unit {0}
+Headed (Count place) = Unit {0}
+Headed (Length n) = 17 ≤ n
+Headed (Rule l s at) = Unit {0}
+
+unfoldable pub shortText : ℕ → List ℕ
+shortText n = refusedText (Length n) ++ headerText
+
+-- a wrong length is that of the whole input
+abbrev pub grown : ℕ → Fault → Fault
+grown n Mark = Mark
+grown n Version = Version
+grown n Mode = Mode
+grown n (Count place) = Count place
+grown n (Length m) = Length n
+grown n (Rule l s at) = Rule l s at
+
+abbrev pub grownBy : ℕ → Option Fault → Option Fault
+grownBy n none = none
+grownBy n (some f) = some (grown n f)
+
+-- for any input with this front and this length
+abbrev pub Answers : List ℕ → ℕ → List ℕ → ℕ → List ℕ → Type 0
+Answers front total out end now = (came : List ℕ) → FrontOf front total came → Puts (checkText came) 0 out end now
+
+-- ---- the program: what it writes out is the text for all that came
+
+pub record Told (end : ℕ) (out : List ℕ) : Type 0 where
+  pub came : List ℕ
+  pub within : end ≤ length out
+  pub text : take end out ≡ checkText came
+
+abbrev pub Answered : Reply → List ℕ → Type 0
+Answered (To end) out = Told end out
+Answered Failed out = Unit {0}
