@@ -334,7 +334,7 @@ with_tables! {
 
 #[no_mangle]
 extern "C" fn fenstubble_version() -> u32 {
-    10000
+    20000
 }
 
 #[no_mangle]
