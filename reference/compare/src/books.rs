@@ -3,7 +3,9 @@
 use std::fmt;
 
 use fenstubble_reference::book::{Book, Mode, Section, SoundBook};
-use fenstubble_reference::bytes::{self, COUNT_PLACES, HEAD_LENGTH, LIMITS, WIDTHS};
+use fenstubble_reference::bytes::{
+    self, COUNT_PLACES, HEAD_LENGTH, LARGEST as LARGEST_BOOK, LIMITS, WIDTHS,
+};
 use fenstubble_reference::fault::Fault;
 use fenstubble_reference::generate::{self, Random, Shape};
 use fenstubble_reference::sets::UserSet;
@@ -190,9 +192,9 @@ const FIXED: [fn(&mut Books, &mut Random) -> Outcome; 8] = [
 /// Lengths around that of the largest book, and around those that 16 bits
 /// hold.
 pub const LENGTHS: [usize; 10] = [
-    46_608,
-    46_609,
-    46_610,
+    LARGEST_BOOK - 1,
+    LARGEST_BOOK,
+    LARGEST_BOOK + 1,
     65_534,
     65_535,
     65_536,
