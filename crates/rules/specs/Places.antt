@@ -89,6 +89,8 @@ places =
     -- a missing vertex, of the outer layer too, before an empty set in an earlier byte
     ∷ (told (write (two (layer (1 ∷ 0 ∷ 3 ∷ []) (token 0 2 0 ∷ token 1 2 0 ∷ [])) owns twice)), 32 ∷ 65535 ∷ [])
     ∷ (told (write (two (layer (0 ∷ 2 ∷ 1 ∷ []) (token 0 2 0 ∷ token 1 2 0 ∷ [])) (layer (1 ∷ 3 ∷ []) []) twice)), 32 ∷ 65535 ∷ [])
+    -- and before a token into an own vertex
+    ∷ (told (write (two (layer (1 ∷ 3 ∷ 3 ∷ []) (token 1 0 0 ∷ [])) owns twice)), 32 ∷ 65535 ∷ [])
     -- an empty inner set before the token into an own vertex; that token
     ∷ (told (write (two (layer (1 ∷ 2 ∷ 3 ∷ 0 ∷ []) (token 0 1 0 ∷ [])) owns twice)), 32 ∷ 41 ∷ [])
     ∷ (told (write (two (layer (1 ∷ 2 ∷ 3 ∷ []) (token 0 2 0 ∷ token 1 2 0 ∷ token 2 1 0 ∷ [])) (layer (1 ∷ 2 ∷ []) (token 0 1 0 ∷ [])) twice)), 32 ∷ 51 ∷ [])
@@ -134,4 +136,4 @@ pub each-place : Right places
 unfolding places Right told toldBy twice good example emptyBytes pair owns both sizeIn size bytes.number bytesOf cell stored rowsOf joined lists.some every keep first numbered tabulateFrom tabulate upTo unlikeEarlier broken orRule firstRule when firstSome setOf hasOuter into sources byToken holders
     joinedSet placedRow plainRow hasOwn notEmpty entersGroup unequal risingRow unitedVertex lateralRow otherRow newRow countLimits inLimit placed held lockedFor locked rows1 rows2 rows3 rows4 rows5 rows6 rows7 rows8 sound.rules
     setRow innerRow outerRow resourceRow tokenOf resourceOf setsIn tokensIn resourcesIn setBytes innerBytes outerBytes resourceBytes headOf counts bookIn header write headIn total start section sections read limitsOf badCount placeOf ruleFault fault
-each-place = (refl, (refl, (refl, (refl, (refl, (refl, (refl, (refl, (refl, (refl, (refl, (refl, (refl, (refl, (refl, (refl, (refl, (refl, (refl, (refl, (refl, (refl, (refl, (refl, (refl, (refl, (refl, (refl, (refl, (refl, (refl, (refl, (refl, (refl, (refl, (refl, (refl, (refl, (refl, (refl, (refl, (refl, (refl, (refl, (refl, (refl, (refl, (refl, (refl, (refl, (refl, (refl, (refl, (refl, (refl, (refl, (refl, (refl, (refl, (refl, (refl, (refl, tt))))))))))))))))))))))))))))))))))))))))))))))))))))))))))))))
+each-place = (refl, (refl, (refl, (refl, (refl, (refl, (refl, (refl, (refl, (refl, (refl, (refl, (refl, (refl, (refl, (refl, (refl, (refl, (refl, (refl, (refl, (refl, (refl, (refl, (refl, (refl, (refl, (refl, (refl, (refl, (refl, (refl, (refl, (refl, (refl, (refl, (refl, (refl, (refl, (refl, (refl, (refl, (refl, (refl, (refl, (refl, (refl, (refl, (refl, (refl, (refl, (refl, (refl, (refl, (refl, (refl, (refl, (refl, (refl, (refl, (refl, (refl, (refl, tt)))))))))))))))))))))))))))))))))))))))))))))))))))))))))))))))

@@ -32,16 +32,17 @@ use Rattle.theorems.proofs.RowLaws.{outer-plain}
 use Rattle.theorems.proofs.ByteLaws.{head-in}
 use Rattle.layer.specs.Laid.{innerShape, outerShape, layerOf, foundIn, isSet}
 use Rattle.layer.specs.declared.table.Found.{Found}
+use Rattle.layer.specs.declared.table.Found.the-variants.{Nothing}
 use Rattle.layer.specs.declared.walk.Shape.{Shape}
 use Rattle.layer.proofs.Read.{length-sets, length-tokens, length-resources}
-use Rattle.sound.specs.Check.{countsOf, rowOf, missingOf, orElse, lower, brokenIs}
+use Rattle.sound.specs.Check.{countsOf, rowOf, missingOf, lower, brokenIs}
 use Rattle.sound.specs.Faults.{placedIn, hasOwnIn, keeps, repeated, sameEnds, again, placedAt, lockedBy}
 use Rattle.sound.specs.declared.layers.Rule.{Rule}
 use Rattle.sound.specs.declared.layers.Rule.the-variants as rule
 use Rattle.sound.specs.declared.every.Broken.{Broken}
 use Rattle.sound.specs.declared.every.Broken.the-variants.{Nowhere}
 use Rattle.rules.specs.declared.Letter.the-variants as letter
-use Rattle.sound.proofs.Spots.{row-told, thing-told, more, first-agree, first-either, first-numbered, first-at-number, some-not, nowhere-kept, Left}
+use Rattle.sound.proofs.Spots.{row-told, thing-told, Rest, none-found, first-agree, first-either, first-numbered, first-at-number, some-not, nowhere-kept, Left}
 
 -- ---- what the searches find
 
@@ -84,18 +85,18 @@ module _ (l : Shape) (ts vs : List ℕ) where
 
   -- the answer r of a search, and what x says of it
   module _ (k : ℕ) {r : Found} {x : Broken} (a : x ≡ rowOf k r) where
-    sets-told : (u : ℕ) → r ≡ strangeSets u (l .vertices) vs → x ≡ brokenIs (broken (rows k (joinedSet u) (L .sets) ∷ []))
+    pub sets-told : (u : ℕ) → r ≡ strangeSets u (l .vertices) vs → x ≡ brokenIs (broken (rows k (joinedSet u) (L .sets) ∷ []))
     unfolding layerOf
     sets-told u e = row-told (joinedSet u) (λ s. not (joinedSet u s)) (setsIn (l .vertices) vs) (length-sets (l .vertices) vs) (λ s m. refl) k a e
 
-    tokens-told : r ≡ strangeTokens (l .width) (l .tokens) (l .vertices) ts → x ≡ brokenIs (broken (rows k (placedRow L) (L .tokens) ∷ []))
+    pub tokens-told : r ≡ strangeTokens (l .width) (l .tokens) (l .vertices) ts → x ≡ brokenIs (broken (rows k (placedRow L) (L .tokens) ∷ []))
     unfolding layerOf placedRow
     tokens-told e =
         row-told (placedRow L) (λ t. not (placedIn (l .vertices) t)) (tokensIn (l .width) (l .tokens) ts) (length-tokens (l .width) (l .tokens) ts)
         (λ t m. rw (length-sets (l .vertices) vs)) k a e
 
     -- where the rows have no kind
-    plain-told : l .width ≡ 4 → r ≡ strangeTokens (l .width) (l .tokens) (l .vertices) ts → x ≡ brokenIs (broken (rows k (plainRow L) (L .tokens) ∷ []))
+    pub plain-told : l .width ≡ 4 → r ≡ strangeTokens (l .width) (l .tokens) (l .vertices) ts → x ≡ brokenIs (broken (rows k (plainRow L) (L .tokens) ∷ []))
     unfolding layerOf placedRow plainRow
     plain-told w e =
         row-told (plainRow L) (λ t. not (placedIn (l .vertices) t)) (tokensIn (l .width) (l .tokens) ts) (length-tokens (l .width) (l .tokens) ts)
@@ -104,22 +105,22 @@ module _ (l : Shape) (ts vs : List ℕ) where
         plain : (t : Token) → List·Memᴰ t (tokensIn (l .width) (l .tokens) ts) → t .kind ≡ 0
         plain t m = outer-plain (l .tokens) ts (rw w at m)
 
-    empty-told : r ≡ emptySets (l .vertices) vs → x ≡ brokenIs (broken (rows k notEmpty (L .sets) ∷ []))
+    pub empty-told : r ≡ emptySets (l .vertices) vs → x ≡ brokenIs (broken (rows k notEmpty (L .sets) ∷ []))
     unfolding layerOf notEmpty
     empty-told e =
         row-told notEmpty (isSet 0) (setsIn (l .vertices) vs) (length-sets (l .vertices) vs) (λ s m. sym (Bool·not-not (eqb s 0))) k a e
 
-    faults-told : (q : Rule) → r ≡ faults q l ts vs → x ≡ brokenIs (broken (rows k (keeps q L) (L .tokens) ∷ []))
+    pub faults-told : (q : Rule) → r ≡ faults q l ts vs → x ≡ brokenIs (broken (rows k (keeps q L) (L .tokens) ∷ []))
     unfolding layerOf
     faults-told q e = row-told (keeps q L) (λ t. not (keeps q L t)) (tokensIn (l .width) (l .tokens) ts) (length-tokens (l .width) (l .tokens) ts) (λ t m. refl) k a e
 
-    united-told : r ≡ ununited l ts vs → x ≡ brokenIs (broken (rows k (unitedVertex L) (numbered 0 (L .sets)) ∷ []))
+    pub united-told : r ≡ ununited l ts vs → x ≡ brokenIs (broken (rows k (unitedVertex L) (numbered 0 (L .sets)) ∷ []))
     unfolding layerOf
     united-told e =
         row-told (unitedVertex L) (λ v. not (unitedVertex L v)) (numbered 0 (setsIn (l .vertices) vs))
         (length-numbered 0 (setsIn (l .vertices) vs) ∙ length-sets (l .vertices) vs) (λ v m. refl) k a e
 
-    equal-told : r ≡ equalSets (l .vertices) vs → x ≡ brokenIs (broken (rows k (unlikeEarlier unequal (L .sets)) (numbered 0 (L .sets)) ∷ []))
+    pub equal-told : r ≡ equalSets (l .vertices) vs → x ≡ brokenIs (broken (rows k (unlikeEarlier unequal (L .sets)) (numbered 0 (L .sets)) ∷ []))
     unfolding layerOf unlikeEarlier unequal repeated
     equal-told e =
         row-told (unlikeEarlier unequal sets) (λ v. not (unlikeEarlier unequal sets v)) (numbered 0 sets)
@@ -136,7 +137,7 @@ module _ (l : Shape) (ts vs : List ℕ) where
             sym (some-not (λ s. not (eqb s (getD (setsIn (l .vertices) vs) i 0))) (λ s. eqb s (getD (setsIn (l .vertices) vs) i 0)) (take i (setsIn (l .vertices) vs))
             (λ s n. sym (Bool·not-not (eqb s (getD (setsIn (l .vertices) vs) i 0)))))
 
-  own-told : (u : ℕ) {r : Found} {x : Broken} → x ≡ missingOf r → r ≡ ownlessUsers u (l .vertices) vs
+  pub own-told : (u : ℕ) {r : Found} {x : Broken} → x ≡ missingOf r → r ≡ ownlessUsers u (l .vertices) vs
       → x ≡ brokenIs (broken (things (hasOwn L) (upTo u) ∷ []))
   unfolding layerOf hasOwn
   own-told u a e = thing-told (hasOwn L) (λ v. not (hasOwnIn (setsIn (l .vertices) vs) v)) (upTo u) (length-upTo u) (λ v m. refl) a e
@@ -257,75 +258,53 @@ module _ (h : Head) (t : Tables) where
       (λ x. not (lockedBy (h .mode .0) (holders (layerOf l (t .innerTokens) (t .innerVertices)) (x .inner)) (setsIn (h .«outer_vertices» .0) (t .outerVertices)) x))
       (resourcesIn (h .resources .0) (t .resources)))
 
-  placed-told : {r : Found} {x : Broken} → x ≡ rowOf 4 r → r ≡ misplacedResources (h .«inner_vertices» .0) (h .«outer_vertices» .0)
-      → x ≡ brokenIs (broken (rows 4 (placed B) (resourcesIn (h .resources .0) (t .resources)) ∷ []))
-  unfolding bookIn placed
-  placed-told a e =
-      row-told (placed B) (λ x. not (placedAt (h .users .0) (h .«inner_vertices» .0) (h .«outer_vertices» .0) x)) (resourcesIn (h .resources .0) (t .resources))
-      (length-resources (h .resources .0) (t .resources))
-      (λ x m. rw (length-sets (h .«inner_vertices» .0) (t .innerVertices), length-sets (h .«outer_vertices» .0) (t .outerVertices))) 4 a e
-
+  -- what S1 to S6 test, one search after the other; i and o are the layers' shapes
   module _ {i o : Shape} (ie : i ≡ innerShape h) (oe : o ≡ outerShape h) where
-    pub s1-told : {a b c d e : Found} {x y z v w p q r s : Broken}
-        → a ≡ strangeSets (h .users .0) (i .vertices) (t .innerVertices) → x ≡ rowOf 0 a
-        → b ≡ strangeTokens (i .width) (i .tokens) (i .vertices) (t .innerTokens) → y ≡ rowOf 1 b
-        → c ≡ strangeSets (h .users .0) (o .vertices) (t .outerVertices) → z ≡ rowOf 2 c
-        → d ≡ strangeTokens (o .width) (o .tokens) (o .vertices) (t .outerTokens) → v ≡ rowOf 3 d
-        → e ≡ misplacedResources (i .vertices) (o .vertices) → w ≡ rowOf 4 e
-        → p ≡ orElse v w → q ≡ orElse z p → r ≡ orElse y q → s ≡ orElse x r
-        → s ≡ brokenIs (broken (rows1 (bookIn h t)))
+    abbrev Inner : Layer
+    Inner = layerOf i (t .innerTokens) (t .innerVertices)
+
+    abbrev Outer : Layer
+    Outer = layerOf o (t .outerTokens) (t .outerVertices)
+
+    pub s1-rest : Rest (broken (rows1 (bookIn h t)))
+        (rows 0 (joinedSet (h .users .0)) (Inner .sets) ∷ rows 1 (placedRow Inner) (Inner .tokens) ∷ rows 2 (joinedSet (h .users .0)) (Outer .sets)
+        ∷ rows 3 (plainRow Outer) (Outer .tokens) ∷ rows 4 (placed B) (resourcesIn (h .resources .0) (t .resources)) ∷ [])
     unfolding rows1 bookIn layerOf
-    s1-told a x b y c z d v e w p q r s =
-        more _ _ s (sets-told (innerShape h) (t .innerTokens) (t .innerVertices) 0 x (h .users .0) (rw ie at a))
-        (more _ _ r (tokens-told (innerShape h) (t .innerTokens) (t .innerVertices) 1 y (rw ie at b))
-        (more _ _ q (sets-told (outerShape h) (t .outerTokens) (t .outerVertices) 2 z (h .users .0) (rw oe at c))
-        (more _ _ p (plain-told (outerShape h) (t .outerTokens) (t .outerVertices) 3 v refl (rw oe at d))
-        (placed-told w (rw (ie, oe) at e)))))
+    s1-rest = rw (ie, oe) (record { is = refl })
 
-    pub s2-told : {a b c d e : Found} {x y z v w p q r s : Broken}
-        → a ≡ ownlessUsers (h .users .0) (i .vertices) (t .innerVertices) → x ≡ missingOf a
-        → b ≡ ownlessUsers (h .users .0) (o .vertices) (t .outerVertices) → y ≡ missingOf b
-        → c ≡ emptySets (i .vertices) (t .innerVertices) → z ≡ rowOf 0 c
-        → d ≡ faults rule.S2 i (t .innerTokens) (t .innerVertices) → v ≡ rowOf 1 d
-        → e ≡ faults rule.S2 o (t .outerTokens) (t .outerVertices) → w ≡ rowOf 3 e
-        → p ≡ orElse v w → q ≡ orElse z p → r ≡ orElse y q → s ≡ orElse x r
-        → s ≡ brokenIs (broken (rows2 (bookIn h t)))
+    pub s2-rest : Rest (broken (rows2 (bookIn h t)))
+        (things (hasOwn Inner) (upTo (h .users .0)) ∷ things (hasOwn Outer) (upTo (h .users .0)) ∷ rows 0 notEmpty (Inner .sets)
+        ∷ rows 1 (keeps rule.S2 Inner) (Inner .tokens) ∷ rows 3 (keeps rule.S2 Outer) (Outer .tokens) ∷ [])
     unfolding rows2 entersGroup bookIn layerOf
-    s2-told a x b y c z d v e w p q r s =
-        more _ _ s (own-told (innerShape h) (t .innerTokens) (t .innerVertices) (h .users .0) x (rw ie at a))
-        (more _ _ r (own-told (outerShape h) (t .outerTokens) (t .outerVertices) (h .users .0) y (rw oe at b))
-        (more _ _ q (empty-told (innerShape h) (t .innerTokens) (t .innerVertices) 0 z (rw ie at c))
-        (more _ _ p (faults-told (innerShape h) (t .innerTokens) (t .innerVertices) 1 v rule.S2 (rw ie at d))
-        (faults-told (outerShape h) (t .outerTokens) (t .outerVertices) 3 w rule.S2 (rw oe at e)))))
+    s2-rest = rw (ie, oe) (record { is = refl })
 
-    pub s4-told : {a b : Found} {x y s : Broken}
-        → a ≡ faults rule.S4 i (t .innerTokens) (t .innerVertices) → x ≡ rowOf 1 a
-        → b ≡ faults rule.S4 o (t .outerTokens) (t .outerVertices) → y ≡ rowOf 3 b
-        → s ≡ orElse x y
-        → s ≡ brokenIs (broken (rows4 (bookIn h t)))
+    pub s3-rest : Rest (broken (rows3 (bookIn h t)))
+        (rows 0 (unlikeEarlier unequal (Inner .sets)) (numbered 0 (Inner .sets)) ∷ rows 2 (unlikeEarlier unequal (Outer .sets)) (numbered 0 (Outer .sets)) ∷ [])
+    unfolding rows3 bookIn layerOf
+    s3-rest = rw (ie, oe) (record { is = refl })
+
+    pub s4-rest : Rest (broken (rows4 (bookIn h t))) (rows 1 (keeps rule.S4 Inner) (Inner .tokens) ∷ rows 3 (keeps rule.S4 Outer) (Outer .tokens) ∷ [])
     unfolding rows4 risingRow bookIn layerOf
-    s4-told a x b y s =
-        more _ _ s (faults-told (innerShape h) (t .innerTokens) (t .innerVertices) 1 x rule.S4 (rw ie at a))
-        (faults-told (outerShape h) (t .outerTokens) (t .outerVertices) 3 y rule.S4 (rw oe at b))
+    s4-rest = rw (ie, oe) (record { is = refl })
 
-    pub s5-told : {a b : Found} {x y s : Broken}
-        → a ≡ ununited i (t .innerTokens) (t .innerVertices) → x ≡ rowOf 0 a
-        → b ≡ ununited o (t .outerTokens) (t .outerVertices) → y ≡ rowOf 2 b
-        → s ≡ orElse x y
-        → s ≡ brokenIs (broken (rows5 (bookIn h t)))
+    pub s5-rest : Rest (broken (rows5 (bookIn h t)))
+        (rows 0 (unitedVertex Inner) (numbered 0 (Inner .sets)) ∷ rows 2 (unitedVertex Outer) (numbered 0 (Outer .sets)) ∷ [])
     unfolding rows5 bookIn layerOf
-    s5-told a x b y s =
-        more _ _ s (united-told (innerShape h) (t .innerTokens) (t .innerVertices) 0 x (rw ie at a))
-        (united-told (outerShape h) (t .outerTokens) (t .outerVertices) 2 y (rw oe at b))
+    s5-rest = rw (ie, oe) (record { is = refl })
 
-  pub s3-told : {a b : Found} {x y s : Broken}
-      → a ≡ equalSets (h .«inner_vertices» .0) (t .innerVertices) → x ≡ rowOf 0 a
-      → b ≡ equalSets (h .«outer_vertices» .0) (t .outerVertices) → y ≡ rowOf 2 b
-      → s ≡ orElse x y
-      → s ≡ brokenIs (broken (rows3 (bookIn h t)))
-  unfolding rows3 bookIn layerOf
-  s3-told a x b y s =
-      more _ _ s (equal-told (innerShape h) (t .innerTokens) (t .innerVertices) 0 x a) (equal-told (outerShape h) (t .outerTokens) (t .outerVertices) 2 y b)
+    pub s6-rest : Rest (broken (rows6 (bookIn h t)))
+        (rows 1 (newRow Inner) (numbered 0 (Inner .tokens)) ∷ rows 3 (newRow Outer) (numbered 0 (Outer .tokens)) ∷ [])
+    unfolding rows6 bookIn layerOf
+    s6-rest = rw (ie, oe) (record { is = refl })
+
+    -- the answer r of the search among the resources, and what x says of it
+    pub placed-told : {r : Found} {x : Broken} → x ≡ rowOf 4 r → r ≡ misplacedResources (i .vertices) (o .vertices)
+        → x ≡ brokenIs (broken (rows 4 (placed B) (resourcesIn (h .resources .0) (t .resources)) ∷ []))
+    unfolding bookIn placed
+    placed-told a e =
+        row-told (placed B) (λ x. not (placedAt (h .users .0) (h .«inner_vertices» .0) (h .«outer_vertices» .0) x)) (resourcesIn (h .resources .0) (t .resources))
+        (length-resources (h .resources .0) (t .resources))
+        (λ x m. rw (length-sets (h .«inner_vertices» .0) (t .innerVertices), length-sets (h .«outer_vertices» .0) (t .outerVertices))) 4 a (rw (ie, oe) at e)
 
   module _ {i : Shape} (ie : i ≡ innerShape h) where
     pub s7-told : {a : Found} {x : Broken} → a ≡ unheldResources i → x ≡ rowOf 4 a → x ≡ brokenIs (broken (rows7 (bookIn h t)))
@@ -371,20 +350,34 @@ module _ (h : Head) (t : Tables) where
         subst (λ (n : ℕ). every (placedAt (h .users .0) n (h .«outer_vertices» .0)) (resourcesIn (h .resources .0) (t .resources)) ≡ true) (length-sets (h .«inner_vertices» .0) (t .innerVertices))
         (subst (λ (m : ℕ). every (placedAt (h .users .0) (length (setsIn (h .«inner_vertices» .0) (t .innerVertices))) m) (resourcesIn (h .resources .0) (t .resources)) ≡ true) (length-sets (h .«outer_vertices» .0) (t .outerVertices)) (parts1 .3))
 
-    pub s6-told : {i o : Shape} → i ≡ innerShape h → o ≡ outerShape h → S4 B ≡ true → {a b c d e f : Found} {x y s : Broken}
-        → a ≡ faults rule.S6 i (t .innerTokens) (t .innerVertices) → b ≡ equalTokens i (t .innerTokens)
-        → c ≡ faults rule.S6 o (t .outerTokens) (t .outerVertices) → d ≡ equalTokens o (t .outerTokens)
-        → e ≡ lower a b → x ≡ rowOf 1 e → f ≡ lower c d → y ≡ rowOf 3 f
-        → s ≡ orElse x y
-        → s ≡ brokenIs (broken (rows6 (bookIn h t)))
-    unfolding rows6 lateralRow bookIn layerOf
-    s6-told ie oe s4 a b c d e x f y s =
-        let (ri, ro) = both (rising (B .inner)) (rising (B .outer)) (sym (s4-is B) ∙ s4) in
-        more _ _ s
-        (row-told (newRow (B .inner)) (λ v. not (newRow (B .inner) v)) (numbered 0 (B .inner .tokens)) (length-numbered 0 (B .inner .tokens) ∙ length-tokens 5 (h .«inner_tokens» .0) (t .innerTokens))
-        (λ v m. refl) 1 x (e ∙ ap₂ lower (rw ie at a) (rw ie at b) ∙ new-rows (B .inner) (parts1 .1) ri (length-tokens 5 (h .«inner_tokens» .0) (t .innerTokens))))
-        (row-told (newRow (B .outer)) (λ v. not (newRow (B .outer) v)) (numbered 0 (B .outer .tokens)) (length-numbered 0 (B .outer .tokens) ∙ length-tokens 4 (h .«outer_tokens» .0) (t .outerTokens))
-        (λ v m. refl) 3 y (f ∙ ap₂ lower (rw oe at c) (rw oe at d) ∙ new-rows (B .outer) (parts1 .2) ro (length-tokens 4 (h .«outer_tokens» .0) (t .outerTokens))))
+    module _ {i o : Shape} (ie : i ≡ innerShape h) (oe : o ≡ outerShape h) (s4 : S4 B ≡ true) where
+      -- the lower of two searches' rows
+      pub new-inner : {a b e : Found} {x : Broken} → x ≡ rowOf 1 e → e ≡ lower a b
+          → a ≡ faults rule.S6 i (t .innerTokens) (t .innerVertices) → b ≡ equalTokens i (t .innerTokens)
+          → x ≡ brokenIs (broken (rows 1 (newRow (layerOf i (t .innerTokens) (t .innerVertices))) (numbered 0 (layerOf i (t .innerTokens) (t .innerVertices) .tokens)) ∷ []))
+      unfolding lateralRow bookIn layerOf
+      new-inner x e a b =
+          let ri = both (rising (B .inner)) (rising (B .outer)) (sym (s4-is B) ∙ s4) .0 in
+          rw ie
+          (row-told (newRow (B .inner)) (λ v. not (newRow (B .inner) v)) (numbered 0 (B .inner .tokens)) (length-numbered 0 (B .inner .tokens) ∙ length-tokens 5 (h .«inner_tokens» .0) (t .innerTokens))
+          (λ v m. refl) 1 x (e ∙ ap₂ lower (rw ie at a) (rw ie at b) ∙ new-rows (B .inner) (parts1 .1) ri (length-tokens 5 (h .«inner_tokens» .0) (t .innerTokens))))
+
+      -- an outer token is never of kind 1
+      pub new-outer : {b : Found} {x : Broken} → x ≡ rowOf 3 b → b ≡ equalTokens o (t .outerTokens)
+          → x ≡ brokenIs (broken (rows 3 (newRow (layerOf o (t .outerTokens) (t .outerVertices))) (numbered 0 (layerOf o (t .outerTokens) (t .outerVertices) .tokens)) ∷ []))
+      unfolding lateralRow bookIn layerOf
+      new-outer x b =
+          let ro = both (rising (B .inner)) (rising (B .outer)) (sym (s4-is B) ∙ s4) .1 in
+          rw oe
+          (row-told (newRow (B .outer)) (λ v. not (newRow (B .outer) v)) (numbered 0 (B .outer .tokens)) (length-numbered 0 (B .outer .tokens) ∙ length-tokens 4 (h .«outer_tokens» .0) (t .outerTokens))
+          (λ v m. refl) 3 x
+          (rw oe at b ∙ ap (λ (f : Found). lower f (equalTokens (outerShape h) (t .outerTokens))) (sym none-lateral)
+          ∙ new-rows (B .outer) (parts1 .2) ro (length-tokens 4 (h .«outer_tokens» .0) (t .outerTokens))))
+        where
+          none-lateral : foundIn (h .«outer_tokens» .0) (first (λ t. not (lateralRow (B .outer) t)) (B .outer .tokens)) ≡ Nothing
+          none-lateral =
+              none-found (lateralRow (B .outer)) (B .outer .tokens) (length-tokens 4 (h .«outer_tokens» .0) (t .outerTokens))
+              (λ x m. rw (outer-plain (h .«outer_tokens» .0) (t .outerTokens) m))
 
 -- ---- the rules one after the other
 

@@ -39,11 +39,6 @@ abbrev pub missingOf : Found → Broken
 missingOf (At i) = By Missing
 missingOf Nothing = Nowhere
 
--- the first of two places
-abbrev pub orElse : Broken → Broken → Broken
-orElse (By s) b = By s
-orElse Nowhere b = b
-
 -- the lower of two rows
 abbrev pub lower : Found → Found → Found
 lower Nothing g = g

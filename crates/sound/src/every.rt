@@ -30,7 +30,7 @@ ghost use Rattle.rules.specs.Tests.{broken, firstRule};
 ghost use Rattle.rules.specs.Bytes.{tables, bookIn, Room, limitsOf};
 ghost use Rattle.rules.specs.Sound.{inLimit, rules, rows1, rows2, rows3, rows4, rows5, rows6, rows7, rows8, S1, S4};
 ghost use Rattle.layer.specs.Laid.{foundIn};
-ghost use Rattle.sound.specs.Check.{countsOf, nothing, rowOf, missingOf, orElse, lower, brokenIs, judgedIs};
+ghost use Rattle.sound.specs.Check.{countsOf, nothing, rowOf, missingOf, lower, brokenIs, judgedIs};
 
 // Where a rule is broken first.
 pub enum Broken {
@@ -71,16 +71,6 @@ fn missing(f: Found) -> Broken
     match f {
         Found::At(_) => Broken::By(Spot::Missing),
         Found::Nothing => Broken::Nowhere,
-    }
-}
-
-// The first of two places, where the earlier rows were looked at first.
-fn or(a: Broken, b: Broken) -> Broken
-    ensures { λ r. ⌜ r ≡ orElse a b ⌝ }
-{
-    match a {
-        Broken::By(s) => Broken::By(s),
-        Broken::Nowhere => b,
     }
 }
 
@@ -143,12 +133,27 @@ fn s1(h: Head, iv: &[u8], it: &[u8], ov: &[u8], ot: &[u8], rs: &[u8]) -> Broken
     let i = inner_shape(h);
     let o = outer_shape(h);
     let a = row(0, strange_set(iv, i.vertices, h.users.0));
+    match a {
+        Broken::By(s) => return Broken::By(s),
+        Broken::Nowhere => {}
+    }
     let b = row(1, strange_token(it, i.width, i.tokens, i.vertices));
+    match b {
+        Broken::By(s) => return Broken::By(s),
+        Broken::Nowhere => {}
+    }
     let c = row(2, strange_set(ov, o.vertices, h.users.0));
+    match c {
+        Broken::By(s) => return Broken::By(s),
+        Broken::Nowhere => {}
+    }
     let d = row(3, strange_token(ot, o.width, o.tokens, o.vertices));
+    match d {
+        Broken::By(s) => return Broken::By(s),
+        Broken::Nowhere => {}
+    }
     let n = h.resources.0 as usize;
-    let e = row(4, misplaced(rs, n, h.users.0, i.vertices, o.vertices));
-    or(a, or(b, or(c, or(d, e))))
+    row(4, misplaced(rs, n, h.users.0, i.vertices, o.vertices))
 }
 
 // S2: own vertices, which no kind 0 token enters; no empty inner set.
@@ -160,11 +165,26 @@ fn s2(h: Head, iv: &[u8], it: &[u8], ov: &[u8], ot: &[u8], rs: &[u8]) -> Broken
     let i = inner_shape(h);
     let o = outer_shape(h);
     let a = missing(ownless(iv, i.vertices, h.users.0));
+    match a {
+        Broken::By(s) => return Broken::By(s),
+        Broken::Nowhere => {}
+    }
     let b = missing(ownless(ov, o.vertices, h.users.0));
+    match b {
+        Broken::By(s) => return Broken::By(s),
+        Broken::Nowhere => {}
+    }
     let c = row(0, find_set(iv, i.vertices, Users::empty()));
+    match c {
+        Broken::By(s) => return Broken::By(s),
+        Broken::Nowhere => {}
+    }
     let d = row(1, token_fault(it, iv, i, Rule::S2));
-    let e = row(3, token_fault(ot, ov, o, Rule::S2));
-    or(a, or(b, or(c, or(d, e))))
+    match d {
+        Broken::By(s) => return Broken::By(s),
+        Broken::Nowhere => {}
+    }
+    row(3, token_fault(ot, ov, o, Rule::S2))
 }
 
 // S3: no two equal sets.
@@ -173,8 +193,11 @@ fn s3(h: Head, iv: &[u8], it: &[u8], ov: &[u8], ot: &[u8], rs: &[u8]) -> Broken
     ensures { λ r. ⌜ r ≡ brokenIs (broken (rows3 (bookIn h (tables (now (iv .entry)) (now (it .entry)) (now (ov .entry)) (now (ot .entry)) (now (rs .entry)))))) ⌝ }
 {
     let a = row(0, equal_set(iv, h.inner_vertices.0 as usize));
-    let b = row(2, equal_set(ov, h.outer_vertices.0 as usize));
-    or(a, b)
+    match a {
+        Broken::By(s) => return Broken::By(s),
+        Broken::Nowhere => {}
+    }
+    row(2, equal_set(ov, h.outer_vertices.0 as usize))
 }
 
 // S4: tokens lead to larger sets.
@@ -184,8 +207,11 @@ fn s4(h: Head, iv: &[u8], it: &[u8], ov: &[u8], ot: &[u8], rs: &[u8]) -> Broken
     ensures { λ r. ⌜ r ≡ brokenIs (broken (rows4 (bookIn h (tables (now (iv .entry)) (now (it .entry)) (now (ov .entry)) (now (ot .entry)) (now (rs .entry)))))) ⌝ }
 {
     let a = row(1, token_fault(it, iv, inner_shape(h), Rule::S4));
-    let b = row(3, token_fault(ot, ov, outer_shape(h), Rule::S4));
-    or(a, b)
+    match a {
+        Broken::By(s) => return Broken::By(s),
+        Broken::Nowhere => {}
+    }
+    row(3, token_fault(ot, ov, outer_shape(h), Rule::S4))
 }
 
 // S5: group vertices are the unions of their sources.
@@ -195,11 +221,15 @@ fn s5(h: Head, iv: &[u8], it: &[u8], ov: &[u8], ot: &[u8], rs: &[u8]) -> Broken
     ensures { λ r. ⌜ r ≡ brokenIs (broken (rows5 (bookIn h (tables (now (iv .entry)) (now (it .entry)) (now (ov .entry)) (now (ot .entry)) (now (rs .entry)))))) ⌝ }
 {
     let a = row(0, ununited(it, iv, inner_shape(h)));
-    let b = row(2, ununited(ot, ov, outer_shape(h)));
-    or(a, b)
+    match a {
+        Broken::By(s) => return Broken::By(s),
+        Broken::Nowhere => {}
+    }
+    row(2, ununited(ot, ov, outer_shape(h)))
 }
 
-// S6: kind 1 tokens let in someone new; no row twice. (Up to the first kind 1 token that lets in nobody new, tokens with the same ends are equal.)
+// S6: kind 1 tokens let in someone new; no row twice. (Up to the first kind 1 token that lets in nobody new, tokens with the same ends are equal. No
+// outer token is of kind 1.)
 fn s6(h: Head, iv: &[u8], it: &[u8], ov: &[u8], ot: &[u8], rs: &[u8]) -> Broken
     requires { ⌜ Room h (tables (now iv) (now it) (now ov) (now ot) (now rs)) ⌝ }
     requires { ⌜ S1 (bookIn h (tables (now iv) (now it) (now ov) (now ot) (now rs))) ≡ true ⌝ }
@@ -208,11 +238,14 @@ fn s6(h: Head, iv: &[u8], it: &[u8], ov: &[u8], ot: &[u8], rs: &[u8]) -> Broken
 {
     let i = inner_shape(h);
     let o = outer_shape(h);
-    let a = token_fault(it, iv, i, Rule::S6);
-    let b = equal_token(it, i.width, i.tokens);
-    let c = token_fault(ot, ov, o, Rule::S6);
-    let d = equal_token(ot, o.width, o.tokens);
-    or(row(1, lower(a, b)), row(3, lower(c, d)))
+    let f = token_fault(it, iv, i, Rule::S6);
+    let g = equal_token(it, i.width, i.tokens);
+    let a = row(1, lower(f, g));
+    match a {
+        Broken::By(s) => return Broken::By(s),
+        Broken::Nowhere => {}
+    }
+    row(3, equal_token(ot, o.width, o.tokens))
 }
 
 // S7: lists lie within the holders.
