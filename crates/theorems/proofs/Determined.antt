@@ -18,7 +18,7 @@ use Rattle.rules.specs.declared.Served.{Served}
 pub determined : {A B : Type 0} {d x y : A} (field : A → B) → x ≡ d → y ≡ d → field x ≡ field y
 determined field h k = ap field (h ∙ sym k)
 
--- a plain answer, as that of `view`, `sound::check` and `book::is_book`
+-- a plain answer, as that of `view`, `sound::check` and `book::first_fault`
 pub answer-determined : {A : Type 0} {d a a′ : A} → a ≡ d → a′ ≡ d → a ≡ a′
 answer-determined e f = determined (λ x. x) e f
 
