@@ -32,7 +32,7 @@ returns : tie.Need-returns
 returns c = search needs
 
 -- the text stands in the output buffer
-told : (c : tie.After-known-told) → Told (c .before .a .given .0 .0) (c .before .before .before .before .before .check .last .1 .0)
+told : (c : tie.After-known-told) → Told (c .before .before .before .before .before .check .last .0) (c .before .a .given .0 .0) (c .before .before .before .before .before .check .last .1 .0)
 told c = rw (c .before .a .given .1) at (c .before .before .before .before .before .check .ensures)
 
 array-share-prefix-out : tie.Need-array-share-prefix-out
