@@ -3,7 +3,6 @@
 use Prim.Native.Nat.{ℕ}
 use mathlib.Core.Path.{_≡_, refl}
 use mathlib.Core.List.{List, [], _∷_, _++_, map}
-use lib.ListN.{take}
 use Rattle.sets.specs.Sets.{sizeIn, size}
 use Rattle.rows.specs.Number as rows
 use Rattle.rows.specs.Number.{bytesOf, cell, stored, rowsOf, joined}

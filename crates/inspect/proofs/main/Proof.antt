@@ -1,8 +1,7 @@
--- `inspect::main` meets its contract. Assumes nothing.
+-- `inspect::main` is safe and ends: what it writes out is the text that stands in the output buffer. Assumes nothing.
 use lib.Seq.{length-take-le}
 use mathlib.Core.Path.{sym}
 use Rattle.inspect.specs.Text.{Told}
-use native.Mathlib.Omega.{arith}
 use borrow.Author.Needs.{needs}
 use Rattle.inspect.proofs.main.Statement.{statement}
 use Rattle.inspect.proofs.main.Tie as tie
