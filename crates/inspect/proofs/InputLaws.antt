@@ -6,7 +6,7 @@ use mathlib.Core.Path.{_≡_, refl, sym, ap, _∙_}
 use native.Mathlib.Omega.{arith}
 use lib.ListN.{length, take, drop, length-append, length-take, length-drop}
 use lib.Seq.{take-nil, take-all, take-add, take-append-le, length-take-le}
-use Rattle.inspect.specs.Input.{longest, Unless, Over, FrontOf, Holds, SoFar, Reads, Counts}
+use Rattle.inspect.specs.Input.{longest, Unless, Over, Holds, SoFar, Reads, Counts}
 use Rattle.inspect.specs.declared.input.Came.{Came}
 
 -- what did not fail
@@ -93,8 +93,8 @@ going-on c input over e s = go (c .failed) refl s
 
 -- ---- the front of all that came
 
-pub front-of : (c : Came) (input came : List ℕ) → length input ≡ longest + 1 → Holds c input came → FrontOf (take (c .kept) input) (c .total) came
-front-of c input came e h = record { front≡ = h .front ∙ ap (λ (n : ℕ). take n came) e; whole = h .whole }
+pub front-is : (c : Came) (input came : List ℕ) → length input ≡ longest + 1 → Holds c input came → take (c .kept) input ≡ take (longest + 1) came
+front-is c input came e h = h .front ∙ ap (λ (n : ℕ). take n came) e
 
 pub front-short : (c : Came) (input came : List ℕ) → Holds c input came → length (take (c .kept) input) ≤ c .total
 front-short c input came h = omega (arith, ap length (h .front), length-take (length input) came, h .whole)

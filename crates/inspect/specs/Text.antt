@@ -3,7 +3,7 @@
 use Prim.Native.Nat.{ℕ, _+_, _≤_}
 use mathlib.Core.Path.{_≡_}
 use mathlib.Core.Bool.{cond}
-use mathlib.Core.List.{List, _∷_, _++_}
+use mathlib.Core.List.{List, _++_}
 use mathlib.Core.Option.{Option, some, none}
 use lib.Dec.{eqb, ltb}
 use lib.ListN.{length, take, getD}
@@ -18,7 +18,8 @@ use Rattle.rules.specs.declared.Fault.{Fault}
 use Rattle.rules.specs.declared.Fault.the-variants.{Mark, Version, Mode, Count, Length, Rule}
 use Rattle.lines.specs.Text.{bytes}
 use Rattle.lines.specs.Answer.{numeral, Puts}
-use Rattle.inspect.specs.Input.{FrontOf}
+use Rattle.inspect.specs.Input.{FrontOf, AllCame}
+use Rattle.inspect.specs.declared.input.Came.{Came}
 use Rattle.inspect.specs.declared.Reply.{Reply}
 use Rattle.inspect.specs.declared.Reply.the-variants.{To, Failed}
 
@@ -149,13 +150,14 @@ grownBy n (some f) = some (grown n f)
 abbrev pub Answers : List ℕ → ℕ → List ℕ → ℕ → List ℕ → Type 0
 Answers front total out end now = (came : List ℕ) → FrontOf front total came → Puts (checkText came) 0 out end now
 
--- ---- the program: what it writes out is the text for all that came
+-- ---- the program: what it writes out is the text for all that came, whose front is in the input buffer
 
-pub record Told (end : ℕ) (out : List ℕ) : Type 0 where
-  pub came : List ℕ
+pub record Told (input : List ℕ) (end : ℕ) (out : List ℕ) : Type 0 where
+  pub read : Came
+  pub all : AllCame read input
   pub within : end ≤ length out
-  pub text : take end out ≡ checkText came
+  pub text : take end out ≡ checkText (all .soFar .came)
 
-abbrev pub Answered : Reply → List ℕ → Type 0
-Answered (To end) out = Told end out
-Answered Failed out = Unit {0}
+abbrev pub Answered : List ℕ → Reply → List ℕ → Type 0
+Answered input (To end) out = Told input end out
+Answered input Failed out = Unit {0}

@@ -10,7 +10,6 @@ use rules::Head;
 use rules::fault_number;
 use rules::fault_place;
 ghost use mathlib.Core.Path.{_≡_};
-ghost use mathlib.Core.List.{_++_};
 ghost use Prim.Native.Nat.{_+_, _≤_};
 ghost use lib.ListN.{length};
 ghost use Rattle.lines.specs.Answer.{Puts};

@@ -27,7 +27,7 @@ enum Reply {
 fn check(input: &mut [u8], out: &mut [u8]) -> Reply
     requires { ⌜ 46610 ≡ length (now input) ⌝ }
     requires { ⌜ 512 ≤ length (now out) ⌝ }
-    ensures { λ r. ⌜ Answered r (now (out .exit)) ⌝ }
+    ensures { λ r. ⌜ Answered (now (input .exit)) r (now (out .exit)) ⌝ }
 {
     let c = read_all(input);
     if c.failed {

@@ -1,8 +1,7 @@
--- `inspect::main` meets its contract. Assumes nothing.
+-- `inspect::main` is safe and ends: what it writes out is the text that stands in the output buffer. Assumes nothing.
 use lib.Seq.{length-take-le}
 use mathlib.Core.Path.{sym}
 use Rattle.inspect.specs.Text.{Told}
-use native.Mathlib.Omega.{arith}
 use borrow.Author.Needs.{needs}
 use Rattle.inspect.proofs.main.Statement.{statement}
 use Rattle.inspect.proofs.main.Tie as tie
@@ -32,7 +31,7 @@ returns : tie.Need-returns
 returns c = search needs
 
 -- the text stands in the output buffer
-told : (c : tie.After-known-told) → Told (c .before .a .given .0 .0) (c .before .before .before .before .before .check .last .1 .0)
+told : (c : tie.After-known-told) → Told (c .before .before .before .before .before .check .last .0) (c .before .a .given .0 .0) (c .before .before .before .before .before .check .last .1 .0)
 told c = rw (c .before .a .given .1) at (c .before .before .before .before .before .check .ensures)
 
 array-share-prefix-out : tie.Need-array-share-prefix-out

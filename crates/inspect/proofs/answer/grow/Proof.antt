@@ -3,7 +3,6 @@ use Rattle.rules.proofs.Fault.{the-type}
 use denote.Enum.Declared.{tagOf}
 use Rattle.inspect.proofs.TextLaws.{grown-other}
 use mathlib.Core.Path.{refl}
-use Prim.Native.Nat.{ℕ}
 use borrow.Author.Needs.{needs}
 use Rattle.inspect.proofs.answer.grow.Statement.{statement}
 use Rattle.inspect.proofs.answer.grow.Tie as tie

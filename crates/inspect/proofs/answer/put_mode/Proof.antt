@@ -2,7 +2,6 @@
 use Rattle.inspect.specs.Text.{modeText}
 use borrow.Author.Tests.{ne-eqb}
 use native.Mathlib.Omega.{arith}
-use mathlib.Core.Path.{_≡_}
 use borrow.Author.Needs.{needs}
 use Rattle.inspect.proofs.answer.put_mode.Statement.{statement}
 use Rattle.inspect.proofs.answer.put_mode.Tie as tie

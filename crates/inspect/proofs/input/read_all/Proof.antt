@@ -1,5 +1,5 @@
 -- `inspect::input::read_all` meets its contract. The invariant: what was read so far is all that came so far. Assumes nothing.
-use mathlib.Core.Path.{_≡_, refl, sym, _∙_}
+use mathlib.Core.Path.{_≡_, refl, sym}
 use borrow.Author.Tests.{not-true, not-false}
 use lib.ListN.{length}
 use mathlib.Core.List.{[]}

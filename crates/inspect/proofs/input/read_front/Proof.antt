@@ -2,7 +2,7 @@
 use borrow.Rule.Slice.PartMut.{putMid, take-put}
 use lib.ListN.{length, take, drop}
 use mathlib.Core.Bool.{true≢false}
-use mathlib.Core.Path.{_≡_, refl, sym}
+use mathlib.Core.Path.{refl, sym}
 use Prim.Native.Nat.{_+_, _-_, _≤_}
 use Rattle.inspect.proofs.InputLaws.{front-more, front-ends, read-failed}
 use native.Mathlib.Omega.{arith}

@@ -1,8 +1,6 @@
 -- `inspect::words::put_count` meets its contract. Assumes nothing.
-use mathlib.Core.Path.{_≡_}
 use Rattle.inspect.specs.Text.{countWords, countText}
 use borrow.Author.Tests.{ne-eqb}
-use native.Mathlib.Omega.{arith}
 use borrow.Author.Needs.{needs}
 use Rattle.inspect.proofs.words.put_count.Statement.{statement}
 use Rattle.inspect.proofs.words.put_count.Tie as tie

@@ -1,5 +1,4 @@
 -- `inspect::words::put_row` meets its contract. Assumes nothing.
-use mathlib.Core.Path.{_≡_}
 use Rattle.inspect.specs.Text.{sectionWords, rowText}
 use borrow.Author.Tests.{ne-eqb}
 use native.Mathlib.Omega.{arith}
