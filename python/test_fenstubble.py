@@ -13,7 +13,8 @@ from typing import Callable, Optional
 import fenstubble
 from fenstubble import NO_ROW, Answer, Ask, Book, Chains, Folder, Kind, Mode, Order, Refused, Request, Row, Section, Token, View, row_at, section
 
-HEADER = (Path(__file__).resolve().parent.parent / "include" / "fenstubble.h").read_text()
+ROOT = Path(__file__).resolve().parent.parent
+HEADER = (ROOT / "include" / "fenstubble.h").read_text()
 OUT_OF_RANGE = (-1, 64, 255, 256, 65535, 65536, 65536 + 1, 2**32, 2**64, 2**64 + 1, -(2**64))
 
 
@@ -371,6 +372,19 @@ class Broken(Case):
         self.assertEqual([row_at(data, at) for at in range(17)], [None] * 17)
         self.assertEqual([row_at(data, at) for at in range(17, len(data))], [row for row in rows for _ in range(fenstubble.WIDTHS[row.section])])
         self.assertEqual([row_at(data, at) for at in (len(data), NO_ROW, 2**64)], [None] * 3)
+
+    def test_story(self) -> None:
+        """examples/story.tkb is the book that examples/requests.txt leaves; in damaged.tkb a byte of an outer token is changed."""
+        good, bad = ((ROOT / "examples" / name).read_bytes() for name in ("story.tkb", "damaged.tkb"))
+        book = Book(Mode.DELTA)
+        mode, *lines = (ROOT / "examples" / "requests.txt").read_text().splitlines()
+        asks = {"join": Ask.JOIN, "insert": Ask.INSERT, "grant": Ask.GRANT, "revoke": Ask.REVOKE, "open": Ask.OPEN}
+        for word, *numbers in (line.split() for line in lines):
+            a, b, *_ = [int(number) for number in numbers] + [0, 0]
+            book.serve([Request(asks[word], a, b, [int(number) for number in numbers])])
+        self.assertEqual((mode, good), ("delta", book.to_bytes()))
+        self.assertEqual([at for at in range(len(good)) if good[at : at + 1] != bad[at : at + 1]], [155])
+        self.broken(34, bad, 155, Row(Section.OUTER_TOKENS, 3))
 
     def test_other_refusals(self) -> None:
         self.refused(1, lambda: section(pair(), 5))

@@ -482,5 +482,7 @@ def state_from(data: bytes) -> tuple[Book, Optional[Pending]]:
             return book, None
         word, number, orders = said["pending"]
         return book, Pending(word, number, [Order(Kind(kind), a, b) for kind, a, b in orders])
-    except (ValueError, KeyError, TypeError, Refused) as error:
+    except Refused as broken:
+        raise Damaged(f"the book in owner/book is broken, {broken}") from broken
+    except (ValueError, KeyError, TypeError) as error:
         raise Damaged(f"owner/book is not a book with its orders: {error}") from error

@@ -1,6 +1,7 @@
 """Tests of the host in one process: files that were changed by others, hosts that fail. Stops are the drill's."""
 from __future__ import annotations
 
+import json
 import resource
 import tempfile
 import unittest
@@ -240,6 +241,33 @@ class Hosts(Case):
         file.write_bytes(data)
         with Host(self.root) as host:
             self.assertEqual(host.read(0, 0), TEXTS[0])
+
+    def test_book_broken(self) -> None:
+        """A book that was changed on disk is told with number and place, whichever byte it is; no file is touched."""
+        file = self.root / "owner" / "book"
+        data = file.read_bytes()
+        said = json.loads(data)
+        good = bytes.fromhex(said["book"])
+        for at in range(len(good)):
+            bad = good[:at] + bytes([good[at] ^ 0x80]) + good[at + 1 :]
+            file.write_bytes(json.dumps({**said, "book": bad.hex()}).encode())
+            before = self.content()
+            self.assertIsNotNone(self.told().place)
+            self.assertEqual(self.content(), before)
+        file.write_bytes(json.dumps({**said, "book": good[:-1].hex()}).encode())
+        self.assertEqual((self.told().number, self.told().place), (24, len(good) - 1))
+        file.write_bytes(data)
+        with Host(self.root) as host:
+            self.assertEqual(host.read(0, 0), TEXTS[0])
+
+    def told(self) -> Refused:
+        """What was said of the book that the host read; the host says it too."""
+        with self.assertRaises(Damaged) as caught:
+            Host(self.root)
+        broken = caught.exception.__cause__
+        self.assertIsInstance(broken, Refused)
+        self.assertEqual(str(caught.exception), f"the book in owner/book is broken, {broken}")
+        return broken
 
     def test_failing_disk(self) -> None:
         """A write that fails closes the host; the next one has the request whole, or not at all."""

@@ -2,7 +2,6 @@
 //! breaks one.
 
 use std::cell::OnceCell;
-use std::collections::HashSet;
 
 use crate::book::{
     Book, Head, InnerToken, Mode, OuterToken, ResourceRow, Section, KIND_ACCESS, KIND_DERIVATION,
@@ -288,8 +287,11 @@ impl<'a> Layer<'a> {
             Rule::S1 => sets.position(|set| !set.within(self.joined)),
             Rule::S2 => sets.position(|set| set.is_empty() && !self.may_be_empty),
             Rule::S3 => {
-                let mut before = HashSet::new();
-                sets.position(|set| !before.insert(set))
+                // Rows with equal sets side by side, the earlier one first.
+                let mut sorted: Vec<_> = sets.zip(0..).collect();
+                sorted.sort_unstable();
+                let equal = sorted.windows(2).filter(|pair| pair[0].0 == pair[1].0);
+                equal.map(|pair| pair[1].1).min()
             }
             Rule::S5 => {
                 let mut pairs = sets.zip(self.unions());
@@ -315,12 +317,12 @@ impl<'a> Layer<'a> {
         let sets = |token: &Token| token.ends().map(|vertex| self.sets[vertex]);
         match rule {
             Rule::S1 => tokens.position(|token| {
-                let kinds = [KIND_DERIVATION, KIND_ACCESS];
-                !kinds.contains(&token.kind) || !token.ends().iter().all(|&end| self.has(end))
+                let [from, to] = token.ends();
+                !(self.has(from) && self.has(to) && token.kind <= KIND_ACCESS)
             }),
             Rule::S2 => tokens.position(|token| {
                 let [_, to] = sets(token);
-                token.is_step() && to.size() == 1
+                token.is_step() && to.only_user().is_some()
             }),
             Rule::S4 => tokens.position(|token| {
                 let [from, to] = sets(token);

@@ -226,7 +226,10 @@ pub fn first_fault(bytes: &[u8]) -> Wrong
     }
     let c = bad_count(h);
     match c {
-        Found::At(i) => return Wrong::First(Fault::Count(COUNT_PLACES[i])),
+        Found::At(i) => {
+            let at = COUNT_PLACES[i];
+            return Wrong::First(Fault::Count(at));
+        }
         Found::Nothing => {}
     }
     if bytes.len() != start_of(h, 5) {

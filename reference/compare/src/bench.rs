@@ -481,6 +481,24 @@ fn count(side: &str, item: &Item) -> Result<u64, String> {
     collected(command)
 }
 
+/// Puts each measured book into the folder; gives the arguments of `counted` for
+/// each call on it, one to a line.
+pub fn books(folder: &Path) -> io::Result<String> {
+    let mut written: Vec<Vec<u8>> = Vec::new();
+    let mut lines = String::new();
+    for item in groups().into_iter().flat_map(|group| group.items) {
+        let there = written.iter().position(|bytes| *bytes == item.bytes);
+        let number = there.unwrap_or(written.len());
+        let path = folder.join(format!("book-{number}"));
+        if there.is_none() {
+            fs::write(&path, &item.bytes)?;
+            written.push(item.bytes.clone());
+        }
+        let _ = writeln!(lines, "engine '{}' {}", words(item.call), path.display());
+    }
+    Ok(lines)
+}
+
 /// The counts, or none and why not.
 fn told_count(counted: Result<[u64; 2], String>, say: &impl Fn(&str)) -> Option<[u64; 2]> {
     counted.map_err(|error| say(&error)).ok()
@@ -527,6 +545,25 @@ mod tests {
             assert!(done.answer.is_ok(), "{}: {:?}", item.name, done.answer);
             assert_eq!(call_of(&words(item.call)), Some(item.call));
         }
+    }
+
+    #[test]
+    fn the_books_as_files() {
+        let folder = env::temp_dir().join(format!("fenstubble-books-{}", std::process::id()));
+        fs::create_dir(&folder).unwrap();
+        let lines = books(&folder).unwrap();
+        let count = groups().iter().map(|group| group.items.len()).sum();
+        assert_eq!(lines.lines().count(), count);
+        for line in lines.lines() {
+            let (call, path) = line.rsplit_once(' ').unwrap();
+            let call = call
+                .strip_prefix("engine '")
+                .unwrap()
+                .trim_end_matches('\'');
+            assert!(call_of(call).is_some(), "{line}");
+            assert!(bytes::read(&fs::read(path).unwrap()).is_ok(), "{line}");
+        }
+        fs::remove_dir_all(&folder).unwrap();
     }
 
     #[test]

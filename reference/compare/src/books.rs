@@ -3,7 +3,9 @@
 use std::fmt;
 
 use fenstubble_reference::book::{Book, Mode, Section, SoundBook};
-use fenstubble_reference::bytes::{self, COUNT_PLACES, HEAD_LENGTH, LIMITS, WIDTHS};
+use fenstubble_reference::bytes::{
+    self, COUNT_PLACES, HEAD_LENGTH, LARGEST as LARGEST_BOOK, LIMITS, WIDTHS,
+};
 use fenstubble_reference::fault::Fault;
 use fenstubble_reference::generate::{self, Random, Shape};
 use fenstubble_reference::sets::UserSet;
@@ -190,9 +192,9 @@ const FIXED: [fn(&mut Books, &mut Random) -> Outcome; 8] = [
 /// Lengths around that of the largest book, and around those that 16 bits
 /// hold.
 pub const LENGTHS: [usize; 10] = [
-    46_608,
-    46_609,
-    46_610,
+    LARGEST_BOOK - 1,
+    LARGEST_BOOK,
+    LARGEST_BOOK + 1,
     65_534,
     65_535,
     65_536,
@@ -445,15 +447,18 @@ impl Books {
         Ok(())
     }
 
-    /// Each pair of kinds, at any rows; so of each pair of rules, and of one
+    /// Each pair of kinds, at any rows; so each pair of rules, and more often one
     /// rule at two rows.
     fn each_pair_of_kinds(&mut self, random: &mut Random) -> Outcome {
         for one in KINDS {
             for other in KINDS {
-                let book = rich(random);
-                let kinds = [(one, Which::some(random)), (other, Which::some(random))];
-                if let Some(bytes) = damaged(random, &book, &kinds) {
-                    self.string(random, &bytes)?;
+                let times = if one.number == other.number { 4 } else { 1 };
+                for _ in 0..times {
+                    let book = rich(random);
+                    let kinds = [(one, Which::some(random)), (other, Which::some(random))];
+                    if let Some(bytes) = damaged(random, &book, &kinds) {
+                        self.string(random, &bytes)?;
+                    }
                 }
             }
         }
@@ -743,6 +748,27 @@ pub fn resize(table: &mut Memory<u8>, length: usize) {
 #[cfg(test)]
 mod tests {
     use super::*;
+
+    #[test]
+    fn what_was_never_met() {
+        // Of nothing: 13 numbers of two calls, 6 counts, a missing vertex, and
+        // the rows: S1 in 5 sections, S2 in 3, S3 to S6 in 2 each, S7 and S8 in
+        // one, each at three rows, but for the 3 where the first can not be.
+        let mut summary = Summary::default();
+        assert_eq!(summary.never_met().len(), 26 + 6 + 1 + 3 * 18 - 3);
+        // One that is met is gone; a single row is the first and the last.
+        let rule = Rule::S4;
+        let at = At::Row(Section::InnerTokens, 0);
+        summary.rows.count(Broken { rule, at }, [3, 1, 3, 0, 0]);
+        let never = summary.never_met();
+        assert_eq!(never.len(), 26 + 6 + 1 + 3 * 18 - 5);
+        assert!(never.contains(&"S4, inner tokens, between".into()));
+        let at = At::Missing;
+        summary.rows.count(Broken { rule, at }, [0; 5]);
+        summary.tally.count(Call::Read, 33);
+        summary.counts[2] += 1;
+        assert_eq!(summary.never_met().len(), never.len() - 3);
+    }
 
     #[test]
     fn counts_in_place() {

@@ -10,6 +10,9 @@ use fenstubble_reference::derive::InnerKnowers;
 use fenstubble_reference::generate::{self, member, subset, Random, Shape};
 use fenstubble_reference::numbers::{InnerVertex, OuterVertex, User};
 use fenstubble_reference::sets::UserSet;
+use fenstubble_reference::sound::limited;
+
+use crate::shrink::head_in;
 
 /// Which of several rows.
 #[derive(Clone, Copy, Debug, PartialEq, Eq)]
@@ -425,24 +428,12 @@ fn over(random: &mut Random, bytes: &mut [u8], count: usize) {
     if bytes.len() < HEAD_LENGTH {
         return;
     }
-    let number = |at: usize| usize::from(u16::from_le_bytes([bytes[at], bytes[at + 1]]));
-    let users = usize::from(bytes[6]);
-    let limit = match count {
-        0 => 64,
-        1 => 256,
-        2 => users + number(7),
-        4 => users + MAX_OUTER_GROUPS,
-        _ => 4096,
-    };
-    let most = if count == 0 { 255 } else { 65535 };
+    let limit = limited(&head_in(bytes))[count].most;
+    let (at, width) = (COUNT_PLACES[count], if count == 0 { 1 } else { 2 });
+    let most = (1 << (8 * width)) - 1;
     let more = [1, 2, random.below(most), most][random.below(4)];
-    let value = (limit + more).min(most);
-    let at = COUNT_PLACES[count];
-    if count == 0 {
-        bytes[at] = value as u8;
-    } else {
-        bytes[at..at + 2].copy_from_slice(&(value as u16).to_le_bytes());
-    }
+    let value = (limit + more).min(most).to_le_bytes();
+    bytes[at..at + width].copy_from_slice(&value[..width]);
 }
 
 /// A number that is no vertex's, of so many.

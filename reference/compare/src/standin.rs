@@ -7,7 +7,7 @@
 use std::cell::Cell;
 use std::slice::from_raw_parts_mut;
 
-use fenstubble_reference::book::SoundBook;
+use fenstubble_reference::book::{Book, InnerToken, SoundBook};
 use fenstubble_reference::bytes::{read, sections, COUNT_PLACES, WIDTHS};
 use fenstubble_reference::lent::Tables;
 use fenstubble_reference::refusal::Refusal;
@@ -166,74 +166,80 @@ fn misplaced(bytes: &[u8], no: Refusal) -> Refusal {
 
 /// What is told in the place of that number and place, if anything.
 fn elsewhere(bytes: &[u8], number: u8, place: usize) -> Option<Refusal> {
-    let at = |place: usize| Some(Refusal::misread(number, place));
-    let loose = Loose::of(bytes);
-    if number == 23 {
-        return match FAULT.get() {
-            Fault::LengthFirst if loose.is_none_or(|loose| loose.has_tail()) => {
-                Some(Refusal::misread(24, bytes.len()))
-            }
-            Fault::LastCount => {
-                let head = head_in(bytes);
-                let last = limited(&head).iter().rposition(|one| one.count > one.most);
-                at(COUNT_PLACES[last?])
-            }
-            _ => None,
-        };
-    }
-    if planted(Fault::PlaceCut) {
-        return at(place % 65536);
-    }
-    if number < 31 {
-        return None;
-    }
-    let book = loose?.book;
-    let starts = sections(&book.head()).map(|section| section.start);
-    let row = |k: usize, row: usize| at(starts[k] + row * WIDTHS[k]);
-    let inner = &book.inner_tokens;
-    let outer = &book.outer_tokens;
-    let k = (0..5).rfind(|&k| starts[k] <= place)?;
-    let this = (place - starts[k]) / WIDTHS[k];
-    match (FAULT.get(), number, place) {
-        (Fault::LateRow(late), _, 0..65535) if late == number => row(k, this + 1),
-        (Fault::EarlierRow(early), _, _) if early == number => {
-            let same = |other: usize| {
-                let [one, two] = [this, other].map(|row| starts[k] + row * WIDTHS[k]);
-                bytes[one..one + WIDTHS[k]] == bytes[two..two + WIDTHS[k]]
+    match number {
+        _ if planted(Fault::PlaceCut) => Some(Refusal::misread(number, place % 65536)),
+        23 => other_count(bytes),
+        31..=38 => {
+            let book = Loose::of(bytes)?.book;
+            let starts = sections(&book.head()).map(|section| section.start);
+            let k = (0..5).rfind(|&k| starts[k] <= place)?;
+            let row = (place - starts[k]) / WIDTHS[k];
+            let (k, row) = match (FAULT.get(), place) {
+                (Fault::LateRow(late), 0..65535) if late == number => (k, row + 1),
+                (Fault::EarlierRow(early), _) if early == number => {
+                    let section = &bytes[starts[k]..];
+                    let mut rows = section.chunks(WIDTHS[k]).take(row);
+                    (
+                        k,
+                        rows.position(|one| section[row * WIDTHS[k]..].starts_with(one))?,
+                    )
+                }
+                _ => other_row(&book, number, place, (k, row))?,
             };
-            row(k, (0..this).find(|&other| same(other))?)
+            Some(Refusal::misread(number, starts[k] + row * WIDTHS[k]))
         }
+        _ => None,
+    }
+}
+
+/// What is told in the place of the first count over its limit, if anything.
+fn other_count(bytes: &[u8]) -> Option<Refusal> {
+    match FAULT.get() {
+        Fault::LengthFirst if Loose::of(bytes).is_none_or(|loose| loose.has_tail()) => {
+            Some(Refusal::misread(24, bytes.len()))
+        }
+        Fault::LastCount => {
+            let counts = limited(&head_in(bytes));
+            let last = counts.iter().rposition(|one| one.count > one.most)?;
+            Some(Refusal::misread(23, COUNT_PLACES[last]))
+        }
+        _ => None,
+    }
+}
+
+/// The section and row told in the place of those, if any.
+fn other_row(
+    book: &Book,
+    number: u8,
+    place: usize,
+    (k, row): (usize, usize),
+) -> Option<(usize, usize)> {
+    let (inner, outer) = (&book.inner_tokens, &book.outer_tokens);
+    let sets = &book.inner_vertices;
+    match (FAULT.get(), number, place) {
         (Fault::TokenFirst, 32, 65535) => {
-            let own = |sets: &[UserSet], to: usize| sets[to].size() == 1;
-            let entered = inner
-                .iter()
-                .position(|token| token.kind == 0 && own(&book.inner_vertices, token.to.index()));
-            row(1, entered?)
+            let enters = |one: &InnerToken| one.kind == 0 && sets[one.to.index()].size() == 1;
+            Some((1, inner.iter().position(enters)?))
         }
         (Fault::SetsFirst, 31, _) => {
             let strange = |set: &UserSet| !set.within(book.joined());
-            let list = book.resources.iter().position(|one| strange(&one.list));
-            book.inner_vertices
-                .iter()
-                .position(strange)
-                .and_then(|one| row(0, one))
-                .or_else(|| row(2, book.outer_vertices.iter().position(strange)?))
-                .or_else(|| row(4, list?))
+            let first = |sets: &[UserSet]| sets.iter().position(strange);
+            let list = || book.resources.iter().position(|one| strange(&one.list));
+            let vertex = first(sets).map(|row| (0, row));
+            let vertex = vertex.or_else(|| Some((2, first(&book.outer_vertices)?)));
+            vertex.or_else(|| Some((4, list()?)))
         }
         (Fault::EqualLast, 36, _) => {
-            let sets = &book.inner_vertices;
-            let shut = inner.iter().position(|token| {
-                let ends = [token.from, token.to].map(|end| sets[end.index()]);
-                token.kind == 1 && (ends[0].size() != 1 || ends[0].within(ends[1]))
-            });
-            row(1, shut?)
+            let shut = |one: &InnerToken| {
+                let [from, to] = [one.from, one.to].map(|end| sets[end.index()]);
+                one.kind == 1 && (from.size() != 1 || from.within(to))
+            };
+            Some((1, inner.iter().position(shut)?))
         }
-        (Fault::TokenOfGroup, 35, _) if k == 0 => {
-            row(1, inner.iter().position(|one| one.to.index() == this)?)
-        }
-        (Fault::TokenOfGroup, 35, _) => {
-            row(3, outer.iter().position(|one| one.to.index() == this)?)
-        }
+        (Fault::TokenOfGroup, 35, _) => match k {
+            0 => Some((1, inner.iter().position(|one| one.to.index() == row)?)),
+            _ => Some((3, outer.iter().position(|one| one.to.index() == row)?)),
+        },
         _ => None,
     }
 }
@@ -328,7 +334,7 @@ with_tables! {
 
 #[no_mangle]
 extern "C" fn fenstubble_version() -> u32 {
-    10000
+    20000
 }
 
 #[no_mangle]

@@ -22,8 +22,8 @@ fn books_alike() {
     // Everything that can be wrong with a book's bytes was met, and often.
     assert_eq!(summary.never_met(), [""; 0], "{summary}");
     for number in NUMBERS {
-        assert!(summary.tally.of("section", number) > 500, "{summary}");
-        assert!(summary.tally.of("read", number) > 100, "{summary}");
+        assert!(summary.tally.of("section", number) > 200, "{summary}");
+        assert!(summary.tally.of("read", number) > 25, "{summary}");
     }
     for (name, numbers) in [
         ("check", &[0, 12, 13][..]),

@@ -112,11 +112,11 @@ bad-count-requires c κs = search needs
 enum-known-c : tie.Need-enum-known-c
 enum-known-c c = search needs
 
-mul-t23 : tie.Need-mul-t23
-mul-t23 c = omega (arith, count-found _ (counted c .bad-count .ensures) (c .before .c .given .1))
+mul-at : tie.Need-mul-at
+mul-at c = omega (arith, count-found _ (counted c .bad-count .ensures) (c .before .c .given .1))
 
-array-read-t26 : tie.Need-array-read-t26
-array-read-t26 c = count-found _ (counted c .bad-count .ensures) (c .before .c .given .1) .0
+array-read-at : tie.Need-array-read-at
+array-read-at c = count-found _ (counted c .bad-count .ensures) (c .before .c .given .1) .0
 
 returns-5 : tie.Need-returns-5
 returns-5 c =
@@ -172,8 +172,8 @@ first-fault-spec =
     returns-4
     bad-count-requires
     enum-known-c
-    mul-t23
-    array-read-t26
+    mul-at
+    array-read-at
     returns-5
     enum-told
     start-of-requires

@@ -1,5 +1,6 @@
 //! Makes one call on one side, for valgrind to count: `counted engine 'grant 3
-//! 5' BOOK`. All that comes before is outside of `measured_call`.
+//! 5' BOOK`. All that comes before is outside of `measured_call`. A book that is
+//! no sound one can be read and its sections asked for; the refusal is told.
 
 use std::hint::black_box;
 use std::process::ExitCode;
@@ -40,8 +41,12 @@ fn main() -> ExitCode {
     let mut lent = item.lent();
     match measured_call(black_box(make), call, &mut lent.lend()) {
         Ok(Ok(_)) => ExitCode::SUCCESS,
-        other => {
-            eprintln!("counted: {other:?}");
+        Ok(Err(no)) => {
+            eprintln!("counted: {no}");
+            ExitCode::SUCCESS
+        }
+        Err(odd) => {
+            eprintln!("counted: {odd:?}");
             ExitCode::FAILURE
         }
     }
