@@ -133,7 +133,7 @@ static size_t from_file(const char *path, uint8_t *bytes, size_t most) {
 
 int main(int argc, char **argv) {
     static struct book book, again;
-    static uint8_t bytes[FENSTUBBLE_BOOK_BYTES], back[FENSTUBBLE_BOOK_BYTES + 1]; /* one more: a longer file is refused */
+    static uint8_t bytes[FENSTUBBLE_BOOK_BYTES], back[FENSTUBBLE_BOOK_BYTES + 1]; /* one more: a longer file is refused, as one of that length */
     size_t length, length_back;
 
     if (argc != 2) {

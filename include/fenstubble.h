@@ -282,10 +282,10 @@ static inline const char *fenstubble_reason(uint16_t result) {
     case FENSTUBBLE_WRONG_COUNT: return "a count in the book's header is over its limit";
     case FENSTUBBLE_WRONG_LENGTH: return "the length is not that of the book's header and rows";
     case FENSTUBBLE_BROKEN_S1: return "S1 is broken: the row has a kind above 1, a vertex that is not there, or a user who has not joined";
-    case FENSTUBBLE_BROKEN_S2: return "S2 is broken: a user has no own vertex, a token leads to one, or an inner vertex has the empty set";
+    case FENSTUBBLE_BROKEN_S2: return "S2 is broken: a user has no own vertex, a token that is not of kind 1 leads to one, or an inner vertex has the empty set";
     case FENSTUBBLE_BROKEN_S3: return "S3 is broken: an earlier vertex of the layer has the same set";
     case FENSTUBBLE_BROKEN_S4: return "S4 is broken: the set where the token starts is empty, or no proper part of the set that it leads to";
-    case FENSTUBBLE_BROKEN_S5: return "S5 is broken: the group's set is not made of the sets from which tokens lead to it";
+    case FENSTUBBLE_BROKEN_S5: return "S5 is broken: the group's set is not made of the sets from which tokens lead to it, those of kind 1 apart";
     case FENSTUBBLE_BROKEN_S6: return "S6 is broken: the access token starts at no user's own vertex, or leads to a set with that user, or the token is there twice";
     case FENSTUBBLE_BROKEN_S7: return "S7 is broken: the folder's list names a user who does not derive its inner key";
     case FENSTUBBLE_BROKEN_S8: return "S8 is broken: the folder's outer lock is not what its mode and its list ask for";
