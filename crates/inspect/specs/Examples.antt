@@ -31,10 +31,10 @@ unfoldable pub texts : List (List ℕ × List ℕ)
 texts =
     (example, bytes "sound\nmode delta\nusers 2\nfolders 1\ninner vertices 3\ninner tokens 2\nouter vertices 2\nouter tokens 0\n")
     ∷ ([], bytes "no 24 0\nwrong length: a header has 17 bytes\n")
-    ∷ (stored 7 (0 ∷ []) example, bytes "no 23 9\nthe count of inner vertices is over its limit, users + folders: 2\n")
+    ∷ (stored 7 (0 ∷ []) example, bytes "no 23 9\nthe count of inner vertices is over its limit, users + folders, which is 2\n")
     ∷ (example ++ (0 ∷ []), bytes "no 24 80\nwrong length: by its counts the book has 79 bytes\n")
-    ∷ (stored 51 (2 ∷ []) example, bytes "no 32 65535\na joined user has no own vertex: S2, own vertices: each joined user has one in each layer, no kind 0 or outer token leads to one, and no inner set is empty\n")
-    ∷ (stored 77 (0 ∷ 0 ∷ []) example, bytes "no 38 67\nfolder row 0: S8, locks fit: a folder's outer vertex has its list as set, and in mode delta there is none exactly where the holders are the list\n")
+    ∷ (stored 51 (2 ∷ []) example, bytes "no 32 65535\na joined user has no own vertex: S2 is broken, own vertices: each joined user has one in each layer, no kind 0 or outer token leads to one, and no inner set is empty\n")
+    ∷ (stored 77 (0 ∷ 0 ∷ []) example, bytes "no 38 67\nfolder row 0: S8 is broken, locks fit: in mode full each folder has an outer vertex with its list as set; in mode delta it has none exactly where the holders are the list, else such a one\n")
     ∷ []
 
 pub each-text : map given texts ≡ map wanted texts

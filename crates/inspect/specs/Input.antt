@@ -1,17 +1,19 @@
 -- What was read of standard input, as against all that came.
 -- Assumes nothing.
-use Prim.Native.Nat.{ℕ, _+_, _≤_}
+use Prim.Native.Nat.{ℕ, _+_, _*_, _≤_}
 use mathlib.Core.Bool.{Bool, true, false}
 use mathlib.Core.List.{List, [], _++_}
 use mathlib.Core.Path.{_≡_}
 use lib.ListN.{length, take}
+use Rattle.sets.specs.Words.{bytes}
+use Rattle.rules.specs.Sound.{maxUsers, maxResources, maxTokens, maxGroups}
 use Rattle.inspect.specs.declared.input.Came.{Came}
 use Rattle.inspect.specs.declared.input.Got.{Got}
 use Rattle.inspect.specs.declared.input.Got.the-variants.{Bytes, End, Failed}
 
 -- RULES 9.4: "no book is longer"
 abbrev pub longest : ℕ
-longest = 46609
+longest = 17 + (maxUsers + maxResources) * bytes + maxTokens * 5 + (maxUsers + maxGroups) * bytes + maxTokens * 4 + maxResources * (bytes + 4)
 
 -- unless something failed
 abbrev pub Unless : Bool → Type 0 → Type 0

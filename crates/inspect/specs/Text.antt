@@ -56,12 +56,12 @@ limitAt h place = getD (limitsOf h) (first (eqb place) countPlaces) (0, 0) .1
 
 unfoldable pub countWords : ℕ → List ℕ
 countWords place =
-    cond (eqb place 6) (bytes "the count of users is over its limit: ")
-    (cond (eqb place 7) (bytes "the count of folders is over its limit: ")
-    (cond (eqb place 9) (bytes "the count of inner vertices is over its limit, users + folders: ")
-    (cond (eqb place 11) (bytes "the count of inner tokens is over its limit: ")
-    (cond (eqb place 13) (bytes "the count of outer vertices is over its limit, users + 448: ")
-    (bytes "the count of outer tokens is over its limit: ")))))
+    cond (eqb place 6) (bytes "the count of users is over its limit, which is ")
+    (cond (eqb place 7) (bytes "the count of folders is over its limit, which is ")
+    (cond (eqb place 9) (bytes "the count of inner vertices is over its limit, users + folders, which is ")
+    (cond (eqb place 11) (bytes "the count of inner tokens is over its limit, which is ")
+    (cond (eqb place 13) (bytes "the count of outer vertices is over its limit, users + 448, which is ")
+    (bytes "the count of outer tokens is over its limit, which is ")))))
 
 unfoldable pub countText : Head → ℕ → List ℕ
 countText h place = countWords place ++ numeral (limitAt h place) 10
@@ -90,18 +90,18 @@ spotText (Row k i) = rowText k i
 spotText Missing = bytes "a joined user has no own vertex:"
 
 abbrev pub ruleText : Letter → List ℕ
-ruleText S1 = bytes " S1, numbers: kinds are 0 or 1, vertex numbers belong to vertices of that layer, sets and lists name only users who have joined\n"
-ruleText S2 = bytes " S2, own vertices: each joined user has one in each layer, no kind 0 or outer token leads to one, and no inner set is empty\n"
-ruleText S3 = bytes " S3, sets differ: two vertices of one layer never have the same set\n"
-ruleText S4 = bytes " S4, tokens rise: a kind 0 or outer token starts at a set with somebody in it, a proper part of the set it leads to\n"
-ruleText S5 = bytes " S5, groups are made of what leads to them: a group's set is all the users in the sets from which kind 0 or outer tokens lead to it\n"
-ruleText S6 = bytes " S6, kind 1 tokens start at a user's own vertex and lead to a set that does not name this user, and no token row stands twice\n"
-ruleText S7 = bytes " S7, lists are held: everybody on a folder's list holds its inner vertex\n"
-ruleText S8 = bytes " S8, locks fit: a folder's outer vertex has its list as set, and in mode delta there is none exactly where the holders are the list\n"
+ruleText S1 = bytes " S1 is broken, numbers: kinds are 0 or 1, vertex numbers belong to vertices of that layer, sets and lists name only users who have joined\n"
+ruleText S2 = bytes " S2 is broken, own vertices: each joined user has one in each layer, no kind 0 or outer token leads to one, and no inner set is empty\n"
+ruleText S3 = bytes " S3 is broken, sets differ: two vertices of one layer never have the same set\n"
+ruleText S4 = bytes " S4 is broken, tokens rise: a kind 0 or outer token starts at a set with somebody in it, a proper part of the set it leads to\n"
+ruleText S5 = bytes " S5 is broken, groups are made of what leads to them: a group's set is all the users in the sets from which kind 0 or outer tokens lead to it\n"
+ruleText S6 = bytes " S6 is broken, kind 1: such a token starts at a user's own vertex and leads to a set that does not name this user, and no token row stands twice\n"
+ruleText S7 = bytes " S7 is broken, lists are held: everybody on a folder's list holds its inner vertex\n"
+ruleText S8 = bytes " S8 is broken, locks fit: in mode full each folder has an outer vertex with its list as set; in mode delta it has none exactly where the holders are the list, else such a one\n"
 
 -- "the second says in English what is wrong there"
 abbrev pub sentence : Head → Fault → List ℕ
-sentence h Mark = bytes "the mark is not 54 4B 42 (\"TKB\"): this is no book\n"
+sentence h Mark = bytes "the mark is not 54 4B 42 (\"TKB\"): this is no book, or its first bytes are spoilt\n"
 sentence h Version = bytes "the version is not 1, the only one that can be read\n"
 sentence h Mode = bytes "the mode is neither 0 (full) nor 1 (delta)\n"
 sentence h (Count place) = countText h place

@@ -13,8 +13,9 @@ use answer::put_check;
 use input::read_all;
 use output::write_out;
 ghost use mathlib.Core.Path.{_≡_};
-ghost use Prim.Native.Nat.{_≤_};
+ghost use Prim.Native.Nat.{_+_, _≤_};
 ghost use lib.ListN.{length};
+ghost use Rattle.inspect.specs.Input.{longest};
 ghost use Rattle.inspect.specs.Text.{Answered};
 
 // Where the answer's text ends in the output buffer; Failed where the input can't be read.
@@ -25,7 +26,7 @@ enum Reply {
 
 // Reads the input and puts the answer into the output buffer.
 fn check(input: &mut [u8], out: &mut [u8]) -> Reply
-    requires { ⌜ 46610 ≡ length (now input) ⌝ }
+    requires { ⌜ longest + 1 ≡ length (now input) ⌝ }
     requires { ⌜ 512 ≤ length (now out) ⌝ }
     ensures { λ r. ⌜ Answered (now (input .exit)) r (now (out .exit)) ⌝ }
 {

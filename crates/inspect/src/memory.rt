@@ -5,7 +5,9 @@ use rules::OuterTokens;
 use rules::OuterVertices;
 use rules::Resources;
 ghost use mathlib.Core.Path.{_≡_};
+ghost use Prim.Native.Nat.{_+_};
 ghost use lib.ListN.{length};
+ghost use Rattle.inspect.specs.Input.{longest};
 
 // The bytes of the longest book: RULES 9.4.
 pub const LONGEST: usize = 17
@@ -20,7 +22,7 @@ pub const OUTPUT: usize = 512;
 
 // For the longest book and one byte more, which tells that an input is longer than any book.
 pub fn input_bytes() -> [u8; LONGEST + 1]
-    ensures { λ r. ⌜ 46610 ≡ length r ⌝ }
+    ensures { λ r. ⌜ longest + 1 ≡ length r ⌝ }
 {
     [0; LONGEST + 1]
 }

@@ -40,37 +40,43 @@ fn put_count(h: Head, place: usize, out: &mut [u8], at: usize) -> usize
     let n = limit_at(h, place);
     let last = b'\n';
     match place {
-        6 => put_number(b"the count of users is over its limit: ", n, last, out, at),
+        6 => put_number(
+            b"the count of users is over its limit, which is ",
+            n,
+            last,
+            out,
+            at,
+        ),
         7 => put_number(
-            b"the count of folders is over its limit: ",
+            b"the count of folders is over its limit, which is ",
             n,
             last,
             out,
             at,
         ),
         9 => put_number(
-            b"the count of inner vertices is over its limit, users + folders: ",
+            b"the count of inner vertices is over its limit, users + folders, which is ",
             n,
             last,
             out,
             at,
         ),
         11 => put_number(
-            b"the count of inner tokens is over its limit: ",
+            b"the count of inner tokens is over its limit, which is ",
             n,
             last,
             out,
             at,
         ),
         13 => put_number(
-            b"the count of outer vertices is over its limit, users + 448: ",
+            b"the count of outer vertices is over its limit, users + 448, which is ",
             n,
             last,
             out,
             at,
         ),
         _ => put_number(
-            b"the count of outer tokens is over its limit: ",
+            b"the count of outer tokens is over its limit, which is ",
             n,
             last,
             out,
@@ -130,42 +136,42 @@ fn put_rule(l: Letter, out: &mut [u8], at: usize) -> usize
 {
     match l {
         Letter::S1 => put_words(
-            b" S1, numbers: kinds are 0 or 1, vertex numbers belong to vertices of that layer, sets and lists name only users who have joined\n",
+            b" S1 is broken, numbers: kinds are 0 or 1, vertex numbers belong to vertices of that layer, sets and lists name only users who have joined\n",
             out,
             at,
         ),
         Letter::S2 => put_words(
-            b" S2, own vertices: each joined user has one in each layer, no kind 0 or outer token leads to one, and no inner set is empty\n",
+            b" S2 is broken, own vertices: each joined user has one in each layer, no kind 0 or outer token leads to one, and no inner set is empty\n",
             out,
             at,
         ),
         Letter::S3 => put_words(
-            b" S3, sets differ: two vertices of one layer never have the same set\n",
+            b" S3 is broken, sets differ: two vertices of one layer never have the same set\n",
             out,
             at,
         ),
         Letter::S4 => put_words(
-            b" S4, tokens rise: a kind 0 or outer token starts at a set with somebody in it, a proper part of the set it leads to\n",
+            b" S4 is broken, tokens rise: a kind 0 or outer token starts at a set with somebody in it, a proper part of the set it leads to\n",
             out,
             at,
         ),
         Letter::S5 => put_words(
-            b" S5, groups are made of what leads to them: a group's set is all the users in the sets from which kind 0 or outer tokens lead to it\n",
+            b" S5 is broken, groups are made of what leads to them: a group's set is all the users in the sets from which kind 0 or outer tokens lead to it\n",
             out,
             at,
         ),
         Letter::S6 => put_words(
-            b" S6, kind 1 tokens start at a user's own vertex and lead to a set that does not name this user, and no token row stands twice\n",
+            b" S6 is broken, kind 1: such a token starts at a user's own vertex and leads to a set that does not name this user, and no token row stands twice\n",
             out,
             at,
         ),
         Letter::S7 => put_words(
-            b" S7, lists are held: everybody on a folder's list holds its inner vertex\n",
+            b" S7 is broken, lists are held: everybody on a folder's list holds its inner vertex\n",
             out,
             at,
         ),
         Letter::S8 => put_words(
-            b" S8, locks fit: a folder's outer vertex has its list as set, and in mode delta there is none exactly where the holders are the list\n",
+            b" S8 is broken, locks fit: in mode full each folder has an outer vertex with its list as set; in mode delta it has none exactly where the holders are the list, else such a one\n",
             out,
             at,
         ),
@@ -180,7 +186,7 @@ pub fn put_sentence(h: Head, f: Fault, out: &mut [u8], at: usize) -> usize
 {
     match f {
         Fault::Mark => put_words(
-            b"the mark is not 54 4B 42 (\"TKB\"): this is no book\n",
+            b"the mark is not 54 4B 42 (\"TKB\"): this is no book, or its first bytes are spoilt\n",
             out,
             at,
         ),
