@@ -50,7 +50,7 @@ headText h = peopleText h ++ layersText h
 unfoldable pub refusedText : Fault → List ℕ
 refusedText f = (bytes "no " ++ numeral (faultNumber f) 32) ++ numeral (faultPlace f) 10
 
--- "for 23 the count and its limit", by the byte where the count starts
+-- "for 23 which count it is, and its limit", by the byte where the count starts
 unfoldable pub limitAt : Head → ℕ → ℕ
 limitAt h place = getD (limitsOf h) (first (eqb place) countPlaces) (0, 0) .1
 
