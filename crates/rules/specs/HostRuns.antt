@@ -11,7 +11,7 @@ use Rattle.rules.specs.Layer.{setOf, ofSize, bySize, takes, cover, verte
 use Rattle.rules.specs.Book.{Book, emptyLayer, emptyBook, resource, hasOuter, withInner, withOuter, withResources, withList, withLock}
 use Rattle.rules.specs.Holders.{into, sources, byToken, holders, holdersOf}
 use Rattle.rules.specs.Sound.{lockedFor}
-use Rattle.rules.specs.Requests.{done, order, _then_, vertexOrders, innerVertex, outerVertex, relock, lock, unlock, lockList, agrees, withSet, join, encrypt, lockNew, insert, letIn, neighbours, grouped, lockAll, settle, grant, revoke}
+use Rattle.rules.specs.Requests.{done, order, _then_, vertexOrders, innerVertex, outerVertex, relock, lock, unlock, lockList, agrees, withSet, join, encrypt, lockNew, insert, letIn, neighbours, grouped, lockAll, settle, toldLast, lockNear, grant, revoke}
 use Rattle.rules.specs.Refusals.{Request, work}
 use Rattle.rules.specs.Host.{Graph, Store, hasKey, addKey, addToken, putInner, putOuter, putKeys, putLock, spoil, canObey, made, obeyed, obey, isJoin, nothingMade, emptyStore}
 use Rattle.rules.specs.Numbers.{Right, bit, deltaRun, fullRun}
@@ -72,5 +72,5 @@ unfolding Right bit hosts hostRun deltaHost fullHost inNumbers spoils unobeyable
     emptyLayer emptyBook resource hasOuter withInner withOuter withResources withList withLock
     into sources byToken holders holdersOf lockedFor
     done _then_ vertexOrders innerVertex outerVertex relock lock unlock lockList agrees withSet join encrypt lockNew insert
-    letIn neighbours grouped lockAll settle grant revoke
+    letIn neighbours grouped lockAll settle toldLast lockNear grant revoke
 host-examples = (refl, (refl, (refl, (refl, (refl, (refl, (refl, (refl, tt))))))))
