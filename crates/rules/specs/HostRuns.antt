@@ -1,20 +1,21 @@
--- Hosts that obey, run from the definitions: what they have after the runs of P1 to P10, and which orders cannot be obeyed then. A row: what the definitions
--- give, and what it should be.
+-- Hosts that obey, run from the definitions: what they have after the runs of P1 to P10, which orders cannot be obeyed then, and what they have where they
+-- stop in P3 and go on. A row: what the definitions give, and what it should be.
 -- Assumes nothing.
 use Prim.Native.Nat.{ℕ}
 use mathlib.Core.Path.{refl}
 use mathlib.Core.Bool.{false}
 use mathlib.Core.List.{List, [], _∷_, _++_, map, flatMap}
+use lib.ListN.{length, take}
 use Rattle.sets.specs.Sets.{sizeIn, size}
 use Rattle.rules.specs.Lists.{every, some, keep, first, numbered, tabulateFrom, tabulate, upTo}
 use Rattle.rules.specs.Layer.{setOf, ofSize, bySize, takes, cover, vertexFor, found, withVertex}
 use Rattle.rules.specs.Book.{Book, emptyLayer, emptyBook, resource, hasOuter, withInner, withOuter, withResources, withList, withLock}
 use Rattle.rules.specs.Holders.{into, sources, byToken, holders, holdersOf}
-use Rattle.rules.specs.Sound.{lockedFor}
+use Rattle.rules.specs.Sound.{otherRow, lockedFor}
 use Rattle.rules.specs.Requests.{done, order, _then_, vertexOrders, innerVertex, outerVertex, relock, lock, unlock, lockList, agrees, withSet, join, encrypt, lockNew, insert, letIn, neighbours, grouped, lockAll, settle, toldLast, lockNear, grant, revoke}
-use Rattle.rules.specs.Refusals.{Request, work}
-use Rattle.rules.specs.Host.{Graph, Store, hasKey, addKey, addToken, putInner, putOuter, putKeys, putLock, spoil, canObey, made, obeyed, obey, isJoin, nothingMade, emptyStore}
-use Rattle.rules.specs.Numbers.{Right, bit, deltaRun, fullRun}
+use Rattle.rules.specs.Refusals.{Request, grants, work}
+use Rattle.rules.specs.Host.{Graph, Store, hasKey, addKey, addToken, putInner, putOuter, putKeys, putLock, spoil, canObey, made, obeyed, obey, hasToken, isThere, again, obeyAgain, restarted, isJoin, nothingMade, emptyStore}
+use Rattle.rules.specs.Numbers.{Right, bit, after, deltaRun, fullRun}
 use Rattle.rules.specs.declared.Order.{Order}
 
 -- a host that obeys the orders of requests one after the other
@@ -49,6 +50,25 @@ unfoldable pub obeyable : List Order
 obeyable =
     order 1 6 0 ∷ order 2 0 5 ∷ order 3 0 5 ∷ order 3 1 65535 ∷ order 3 2 0 ∷ order 4 4 0 ∷ order 5 0 3 ∷ order 6 0 3 ∷ order 7 2 3 ∷ []
 
+-- ---- P3 with stops: the host before it, and its orders
+
+unfoldable pub before : Store
+before = hostRun (take 5 deltaRun) (emptyBook 1) emptyStore
+
+unfoldable pub p3 : List Order
+p3 = work (grants 0 2) (after (take 5 deltaRun) (emptyBook 1)) .orders
+
+-- the lock of folder 1 and how many inner tokens there are, after the first k orders: the token comes when folder 1 is locked
+unfoldable pub atStop : ℕ → List ℕ
+atStop k = let s = obey false (take k p3) before in s .lock 1 ∷ length (s .inner .tokens) ∷ []
+
+unfoldable pub all : Store → List ℕ
+all s = inNumbers (s .inner) ++ (inNumbers (s .outer) ++ (s .keys ++ (s .lock 0 ∷ s .lock 1 ∷ bit (s .spoilt) ∷ [])))
+
+unfoldable pub afterP3 : List ℕ
+afterP3 =
+    0 ∷ 1 ∷ 2 ∷ 3 ∷ 0 ∷ 3 ∷ 0 ∷ 1 ∷ 3 ∷ 0 ∷ 2 ∷ 3 ∷ 1 ∷ 0 ∷ 1 ∷ 2 ∷ 0 ∷ 1 ∷ 2 ∷ 3 ∷ 0 ∷ 3 ∷ 0 ∷ 1 ∷ 3 ∷ 0 ∷ 0 ∷ 1 ∷ 2 ∷ 3 ∷ 3 ∷ 65535 ∷ 3 ∷ 0 ∷ []
+
 unfoldable pub hosts : List (List ℕ × List ℕ)
 hosts =
     (inNumbers (deltaHost .inner), 0 ∷ 1 ∷ 2 ∷ 3 ∷ 0 ∷ 3 ∷ 0 ∷ 1 ∷ 3 ∷ 0 ∷ 2 ∷ 3 ∷ 1 ∷ 0 ∷ 1 ∷ 2 ∷ [])
@@ -62,15 +82,22 @@ hosts =
     ∷ (bit (deltaHost .spoilt) ∷ bit (fullHost .spoilt) ∷ [], 0 ∷ 0 ∷ [])
     ∷ (spoils deltaHost unobeyable, 1 ∷ 1 ∷ 1 ∷ 1 ∷ 1 ∷ 1 ∷ 1 ∷ 1 ∷ 1 ∷ 1 ∷ 1 ∷ 1 ∷ 1 ∷ 1 ∷ 1 ∷ 1 ∷ [])
     ∷ (spoils deltaHost obeyable, 0 ∷ 0 ∷ 0 ∷ 0 ∷ 0 ∷ 0 ∷ 0 ∷ 0 ∷ 0 ∷ [])
+    ∷ (flatMap atStop (upTo 6), 65535 ∷ 2 ∷ 65535 ∷ 2 ∷ 65535 ∷ 2 ∷ 65535 ∷ 2 ∷ 3 ∷ 2 ∷ 3 ∷ 3 ∷ [])
+    -- stopped after 2, 4, 1 and 5 orders, each time from the first; and once more to the end: what is there stays
+    ∷ (all (restarted false p3 (2 ∷ 4 ∷ 1 ∷ 5 ∷ []) before), afterP3)
+    ∷ (all (obeyAgain false p3 (obey false p3 before)), afterP3)
+    -- orders that are obeyed twice as if they were new
+    ∷ (bit (obey false p3 (obey false (take 1 p3) before) .spoilt) ∷ [], 1 ∷ [])
     ∷ []
 
 pub host-examples : Right hosts
-unfolding Right bit hosts hostRun deltaHost fullHost inNumbers spoils unobeyable obeyable deltaRun fullRun work flatMap
+unfolding Right bit hosts hostRun deltaHost fullHost inNumbers spoils unobeyable obeyable before p3 atStop all afterP3 after deltaRun fullRun work flatMap
     hasKey addKey addToken putInner putOuter putKeys putLock spoil canObey made obeyed obey isJoin nothingMade emptyStore
+    hasToken otherRow isThere again obeyAgain restarted
     sizeIn size every some keep first numbered tabulateFrom tabulate upTo
     setOf ofSize bySize takes cover vertexFor found withVertex
     emptyLayer emptyBook resource hasOuter withInner withOuter withResources withList withLock
     into sources byToken holders holdersOf lockedFor
     done _then_ vertexOrders innerVertex outerVertex relock lock unlock lockList agrees withSet join encrypt lockNew insert
     letIn neighbours grouped lockAll settle toldLast lockNear grant revoke
-host-examples = (refl, (refl, (refl, (refl, (refl, (refl, (refl, (refl, tt))))))))
+host-examples = (refl, (refl, (refl, (refl, (refl, (refl, (refl, (refl, (refl, (refl, (refl, (refl, tt))))))))))))

@@ -1,0 +1,49 @@
+-- A host that stops in the middle of a request's orders: who opens what from what it has then. RULES 6.6.
+-- Assumes nothing.
+use Prim.Native.Nat.{ℕ, _<_}
+use mathlib.Core.Path.{_≡_}
+use mathlib.Core.Bool.{Bool, true, false, cond}
+use mathlib.Core.Logic.{_⊎_}
+use mathlib.Core.List.{List, [], _∷_}
+use lib.Dec.{eqb, ltb}
+use lib.ListN.{length, take}
+use Rattle.sets.specs.Sets.{has}
+use Rattle.rules.specs.Book.{Book, resource}
+use Rattle.rules.specs.Refusals.{Request, joins, inserts, grants, revokes, work}
+use Rattle.rules.specs.Calls.{change, ordersIn}
+use Rattle.rules.specs.Runs.{Kept}
+use Rattle.rules.specs.Host.{Store, HostOpens, obey, isJoin}
+use Rattle.rules.specs.declared.Changed.{Changed}
+use Rattle.rules.specs.declared.Changed.the-variants as changed
+
+-- the list of r before a request that leads from b to c: "a new folder's list before is the one that it comes with"
+unfoldable pub oldList : Book → Book → ℕ → ℕ
+oldList b c r = cond (ltb r (length (b .resources))) (resource b r .list) (resource c r .list)
+
+-- every encrypted folder "opens for everybody who is on its list both before and after the request, and for nobody who is on neither". Where the two lists
+-- are one, that is "for exactly its list". No order was one that the host cannot obey
+pub record Safe (b c : Book) (s : Store) : Type 0 where
+  pub opens-both : (r : ℕ) → r < length (s .keys) → (u : ℕ) → has (oldList b c r) u ≡ true → has (resource c r .list) u ≡ true → HostOpens s u r
+  pub opens-only : (r : ℕ) → r < length (s .keys) → (u : ℕ) → HostOpens s u r → (has (oldList b c r) u ≡ true) ⊎ (has (resource c r .list) u ≡ true)
+  pub unspoilt : s .spoilt ≡ false
+
+-- "an accepted request of which it has obeyed the first k orders"
+unfoldable pub stopped : Request → Book → ℕ → Store → Store
+stopped q b k s = obey (isJoin q) (take k (work q b .orders)) s
+
+-- the folder that a request names
+unfoldable pub names : Request → Book → ℕ → Bool
+names joins b r = false
+names (inserts l) b r = eqb r (length (b .resources))
+names (grants i u) b r = eqb r i
+names (revokes i u) b r = eqb r i
+
+-- the first k rows of those that a call gave
+unfoldable pub obeyFirst : Request → Changed → List ℕ → ℕ → Store → Store
+obeyFirst q (changed.Done h n) list k s = obey (isJoin q) (take k (ordersIn n list)) s
+obeyFirst q (changed.No r) list k s = s
+
+unfoldable pub stoppedCall : Request → List ℕ → Kept → ℕ → Store → Store
+stoppedCall q list k n s =
+    let c = change q (k .head) (k .tables) list in
+    obeyFirst q (c .answer) (c .orders) n s
