@@ -127,34 +127,44 @@ knows-more e (hash d) = hash (knows-more e d)
 knows-more e (step m k d) = step (longer-mem (e .tokens) m) k (knows-more e d)
 knows-more e (given m k d) = given (longer-mem (e .tokens) m) k (knows-more e d)
 
--- ---- the locks
+-- ---- what an order leaves
 
--- an order that leaves the lock of r
+-- the lock of r
 abbrev pub Spares : ℕ → Order → Type 0
 Spares r o = o .kind ≡ 3 → o .a ≢ r
 
-made-lock : (j : Bool) (k x y : ℕ) (s : Store) (r : ℕ) → (k ≡ 3 → x ≢ r) → made j k x y s .lock r ≡ s .lock r
+made-spares : (j : Bool) (k x y : ℕ) (s : Store) (r : ℕ) → ((k ≡ 3 → x ≢ r) → made j k x y s .lock r ≡ s .lock r) × (k ≢ 7 → made j k x y s .keys ≡ s .keys)
 unfolding made putInner putOuter putKeys putLock
-made-lock j zero x y s r h = refl
-made-lock j (suc zero) x y s r h = refl
-made-lock j (suc (suc zero)) x y s r h = refl
-made-lock j (suc (suc (suc zero))) x y s r h = ap (λ (z : Bool). cond z y (s .lock r)) (ne-eqb r x (λ e. h refl (sym e)))
-made-lock j (suc (suc (suc (suc zero)))) x y s r h = refl
-made-lock j (suc (suc (suc (suc (suc zero))))) x y s r h = refl
-made-lock j (suc (suc (suc (suc (suc (suc zero)))))) x y s r h = refl
-made-lock j (suc (suc (suc (suc (suc (suc (suc zero))))))) x y s r h = refl
-made-lock j (suc (suc (suc (suc (suc (suc (suc (suc k)))))))) x y s r h = refl
+made-spares j zero x y s r = (λ h. refl, λ h. refl)
+made-spares j (suc zero) x y s r = (λ h. refl, λ h. refl)
+made-spares j (suc (suc zero)) x y s r = (λ h. refl, λ h. refl)
+made-spares j (suc (suc (suc zero))) x y s r = (λ h. ap (λ (z : Bool). cond z y (s .lock r)) (ne-eqb r x (λ e. h refl (sym e))), λ h. refl)
+made-spares j (suc (suc (suc (suc zero)))) x y s r = (λ h. refl, λ h. refl)
+made-spares j (suc (suc (suc (suc (suc zero))))) x y s r = (λ h. refl, λ h. refl)
+made-spares j (suc (suc (suc (suc (suc (suc zero)))))) x y s r = (λ h. refl, λ h. refl)
+made-spares j (suc (suc (suc (suc (suc (suc (suc zero))))))) x y s r = (λ h. refl, λ h. absurd (h refl))
+made-spares j (suc (suc (suc (suc (suc (suc (suc (suc k)))))))) x y s r = (λ h. refl, λ h. refl)
 
-pub obeyed-lock : (j : Bool) (o : Order) (s : Store) (r : ℕ) → Spares r o → obeyed j o s .lock r ≡ s .lock r
+-- the encrypted folders, where it encrypts none
+pub obeyed-spares : (j : Bool) (o : Order) (s : Store) (r : ℕ) → (Spares r o → obeyed j o s .lock r ≡ s .lock r) × (o .kind ≢ 7 → obeyed j o s .keys ≡ s .keys)
 unfolding obeyed spoil
-obeyed-lock j o s r h = go (canObey (o .kind) (o .a) (o .b) s)
+obeyed-spares j o s r = go (canObey (o .kind) (o .a) (o .b) s)
   where
-    go : (z : Bool) → cond z (made j (o .kind) (o .a) (o .b) s) (spoil s) .lock r ≡ s .lock r
-    go true = made-lock j (o .kind) (o .a) (o .b) s r h
-    go false = refl
+    t : Bool → Store
+    t z = cond z (made j (o .kind) (o .a) (o .b) s) (spoil s)
+
+    go : (z : Bool) → (Spares r o → t z .lock r ≡ s .lock r) × (o .kind ≢ 7 → t z .keys ≡ s .keys)
+    go true = made-spares j (o .kind) (o .a) (o .b) s r
+    go false = (λ h. refl, λ h. refl)
 
 pub obey-lock : (j : Bool) (os : List Order) (s : Store) (r : ℕ) → Each (Spares r) os → obey j os s .lock r ≡ s .lock r
 unfolding obey
 obey-lock j [] s r f = refl
 obey-lock j (o ∷ os) s r f =
-    obey-lock j os (obeyed j o s) r (λ p m. f p (List·Memᴰ·tail m)) ∙ obeyed-lock j o s r (f o (List·Memᴰ·head refl))
+    obey-lock j os (obeyed j o s) r (λ p m. f p (List·Memᴰ·tail m)) ∙ obeyed-spares j o s r .0 (f o (List·Memᴰ·head refl))
+
+pub obey-keys : (j : Bool) (os : List Order) (s : Store) → Each (λ o. o .kind ≢ 7) os → obey j os s .keys ≡ s .keys
+unfolding obey
+obey-keys j [] s f = refl
+obey-keys j (o ∷ os) s f =
+    obey-keys j os (obeyed j o s) (λ p m. f p (List·Memᴰ·tail m)) ∙ obeyed-spares j o s 0 .1 (f o (List·Memᴰ·head refl))
