@@ -1,30 +1,30 @@
--- A host that goes on: it may stop and start again, each time from the first order, and leave what is there as it is. It then has what one has that obeyed
--- as many orders as it ever did, once each. RULES 6.7.
+-- A host that goes on: it may stop and start again, each time from the first order, and leaves what is there as it is. It then has what it would have if it
+-- had obeyed the orders, as far as it ever came, once each. RULES 6.7.
 -- Assumes nothing.
 use Prim.Native.Nat.{ℕ, zero, suc, _≤_, _<_, max}
 use mathlib.Core.Path.{_≡_, refl, sym, ap, ap₂, _∙_, subst}
-use mathlib.Core.Bool.{Bool, true, false, _&&_, _||_, not, cond, true≢false, false≢true}
+use mathlib.Core.Bool.{Bool, true, false, _&&_, not, cond, true≢false, false≢true}
 use mathlib.Core.Logic.{_⊎_, inl, inr}
-use mathlib.Core.List.{List, [], _∷_, _++_, map, append-nil, append-assoc, IsPrefix, List·Memᴰ, List·Memᴰ·head, List·Memᴰ·tail, List·Memᴰ·not-nil, List·Memᴰ·eq-of-singleton, Memᴰ·cast, Memᴰ·append-left, Memᴰ·append-right}
+use mathlib.Core.List.{List, [], _∷_, _++_, map, append-nil, append-assoc, IsPrefix, List·Memᴰ, List·Memᴰ·head, List·Memᴰ·not-nil, List·Memᴰ·eq-of-singleton, Memᴰ·cast, Memᴰ·append-left, Memᴰ·append-right}
 use mathlib.Core.Option.{none}
-use native.Mathlib.Nat.{lt-irrefl, max-zero, zero-max, suc-max-suc}
+use native.Mathlib.Nat.{max-zero, zero-max, suc-max-suc}
 use native.Mathlib.Omega.{arith}
 use lib.Dec.{eqb, ltb}
 use lib.ListN.{length, getD, take, length-append}
 use lib.Seq.{append-snoc, getD-append-seam, take-all, take-length, take-nil}
-use borrow.Author.Tests.{eqb-true, eq-eqb, ne-eqb, ltb-true, lt-ltb, not-true, not-false}
+use borrow.Author.Tests.{eqb-true, eq-eqb, ne-eqb, ltb-true, lt-ltb, not-true}
+use Rattle.sets.specs.Sets.{has, single}
 use Rattle.sets.proofs.Laws.{both}
-use Rattle.rules.specs.Lists.{every, some, pairwise}
+use Rattle.rules.specs.Lists.{every, pairwise}
 use Rattle.rules.specs.Layer.{Layer, token, cover, found, vertexFor}
 use Rattle.rules.specs.declared.Token.{Token}
 use Rattle.rules.specs.declared.Order.{Order}
-use Rattle.sets.specs.Sets.{has, single}
 use Rattle.rules.specs.Book as book
 use Rattle.rules.specs.Book.{Book, resource, hasOuter, withInner, withList}
 use Rattle.rules.specs.Holders.{holdersOf}
 use Rattle.rules.specs.Bytes.{Tables}
 use Rattle.rules.specs.Sound.{lockedFor, otherRow, unequal, sound}
-use Rattle.rules.specs.Requests.{Done, done, order, _then_, toldLast, vertexOrders, innerVertex, outerVertex, relock, lock, unlock, lockList, agrees, encrypt, lockNew, insert, letIn, settle, grant, join, revoke}
+use Rattle.rules.specs.Requests.{Done, done, order, _then_, toldLast, vertexOrders, innerVertex, outerVertex, relock, lock, unlock, lockList, agrees, encrypt, lockNew, insert, letIn, settle, join, revoke}
 use Rattle.rules.specs.Refusals.{Request, joins, inserts, grants, revokes, work, refusal}
 use Rattle.rules.specs.Host.{Graph, Store, hasKey, hasToken, addKey, addToken, putInner, putOuter, putKeys, putLock, spoil, canObey, made, obeyed, obey, isThere, again, obeyAgain, restarted, most, isJoin, graphOf, storeOf}
 use Rattle.rules.specs.Stops.{stopped}
@@ -32,7 +32,7 @@ use Rattle.theorems.specs.Plan.{grantedList, revokedList, waiters, lockG
 use Rattle.theorems.proofs.ListLaws.{every-mem, mem-every, mem-some, pairwise-append, pairwise-parts}
 use Rattle.theorems.proofs.TestedLaws.{same}
 use Rattle.theorems.proofs.ChainLaws.{same-row}
-use Rattle.theorems.proofs.RequestLaws.{Allowed, accepted, work-laws}
+use Rattle.theorems.proofs.RequestLaws.{Allowed, Accepted, accepted, work-laws}
 use Rattle.theorems.proofs.HostLaws.{obeyed-can, can-first, obeyed-work}
 use Rattle.theorems.proofs.NeighbourLaws.{letInBook}
 use Rattle.theorems.proofs.GroupLaws.{group-orders, grant-group, waiters-mem, waiters-apart}
@@ -57,20 +57,20 @@ module _ {A : Type 0} where
 
 -- ---- the resources that orders lock
 
-unfoldable pub lockOf : ℕ → ℕ → List ℕ
+lockOf : ℕ → ℕ → List ℕ
 lockOf k r = cond (eqb k 3) (r ∷ []) []
 
-unfoldable pub locksOf : List Order → List ℕ
+locksOf : List Order → List ℕ
 locksOf [] = []
 locksOf (o ∷ os) = lockOf (o .kind) (o .a) ++ locksOf os
 
 -- ---- what orders leave of a store: all that was made; and the locks, but those of the resources rs
 
-pub record More (g h : Graph) : Type 0 where
+record More (g h : Graph) : Type 0 where
   pub vertices : IsPrefix (g .vertices) (h .vertices)
   pub tokens : IsPrefix (g .tokens) (h .tokens)
 
-pub record Onward (rs : List ℕ) (s t : Store) : Type 0 where
+record Onward (rs : List ℕ) (s t : Store) : Type 0 where
   pub inner : More (s .inner) (t .inner)
   pub outer : More (s .outer) (t .outer)
   pub keys : IsPrefix (s .keys) (t .keys)
@@ -159,10 +159,6 @@ other-turned : (s t : Token) → otherRow s t ≡ otherRow t s
 unfolding otherRow
 other-turned s t = rw (eqb-turned (s .from) (t .from), eqb-turned (s .to) (t .to), eqb-turned (s .kind) (t .kind))
 
-unequal-self : (r : ℕ) → unequal r r ≡ false
-unfolding unequal
-unequal-self r = ap not (eq-eqb r r refl)
-
 key-there : (j : Bool) (v : ℕ) (g h : Graph) → More (addKey j v g) h → hasKey h v ≡ true
 unfolding hasKey addKey
 key-there j v g h m = mem-some (eqb v) (h .vertices) (put-there (g .vertices) (h .vertices) v (m .vertices)) (eq-eqb v v refl)
@@ -193,6 +189,7 @@ folder-there r v ks ls e (zs, p) =
     (lt-ltb r (length ls) (omega (arith, eqb-true r (length ks) e, ap length q, length-append ks (v ∷ zs))))
     (eq-eqb (getD ls r 0) v (ap₂ (λ (l : List ℕ) (i : ℕ). getD l i 0) (sym q) (eqb-true r (length ks) e) ∙ getD-append-seam ks v zs 0))
 
+-- t: any later state, in which no order has locked the resource anew
 stays : (j : Bool) (k x y : ℕ) (rs : List ℕ) (s t : Store) → canObey k x y s ≡ true → Onward rs (made j k x y s) t → ((r : ℕ) → List·Memᴰ r (lockOf k x) → List·Memᴰ r rs → ⊥)
     → isThere k x y t ≡ true
 unfolding canObey made isThere putInner putOuter putKeys lockOf
@@ -210,7 +207,7 @@ stays j (suc (suc (suc (suc (suc (suc (suc (suc k)))))))) x y rs s t c w n = abs
 -- ---- an order whose turn comes for the first time is not there, but for a lock that is as it asks already
 
 -- no two tokens of one layer are alike
-pub record Apart (t : Store) : Type 0 where
+record Apart (t : Store) : Type 0 where
   pub inner : pairwise otherRow (t .inner .tokens) ≡ true
   pub outer : pairwise otherRow (t .outer .tokens) ≡ true
 
@@ -225,6 +222,7 @@ relocked r v s e = ap (λ (f : ℕ → ℕ). putLock f s) (λ j i. at i (eqb i r
     at i true p = sym (eqb-true (s .lock r) v e) ∙ ap (s .lock) (sym (eqb-true i r p))
     at i false p = refl
 
+-- t: the state in the end
 nothing-new : (j : Bool) (k x y : ℕ) (rs : List ℕ) (s t : Store) → canObey k x y s ≡ true → Onward rs (made j k x y s) t → Apart t → isThere k x y s ≡ true
     → made j k x y s ≡ s
 unfolding canObey made isThere putInner putOuter putKeys
@@ -245,7 +243,7 @@ nothing-new j (suc (suc (suc (suc (suc (suc (suc (suc k)))))))) x y rs s t c w d
 
 -- ---- any orders: none spoils the store, no two tokens are alike in the end, and no resource is locked twice
 
-pub record Steady (j : Bool) (os : List Order) (s : Store) : Type 0 where
+record Steady (j : Bool) (os : List Order) (s : Store) : Type 0 where
   pub unspoilt : obey j os s .spoilt ≡ false
   pub apart : Apart (obey j os s)
   pub once : pairwise unequal (locksOf os) ≡ true
@@ -270,6 +268,7 @@ module _ (j : Bool) (o : Order) (os : List Order) (s : Store) (h : Steady j (o �
   goes-on : (k : ℕ) → Onward (locksOf os) (made j (o .kind) (o .a) (o .b) s) (later k)
   goes-on k = subst (λ (t : Store). Onward (locksOf os) t (later k)) (obeyed-can j o s can) (onward j k os (obeyed j o s))
 
+  -- obeyed for the first time
   first : again j o s ≡ obeyed j o s
   unfolding again obey
   first = go (isThere (o .kind) (o .a) (o .b) s) refl
@@ -282,14 +281,15 @@ module _ (j : Bool) (o : Order) (os : List Order) (s : Store) (h : Steady j (o �
           sym (obeyed-can j o s can ∙ nothing-new j (o .kind) (o .a) (o .b) (locksOf os) s (later (length os)) can (goes-on (length os)) end e)
       go false e = refl
 
+  -- and later left as it is
   left : (k : ℕ) → again j o (later k) ≡ later k
-  unfolding again
+  unfolding again unequal
   left k =
       ap (λ (z : Bool). cond z (later k) (obeyed j o (later k)))
-      (stays j (o .kind) (o .a) (o .b) (locksOf os) s (later k) can (goes-on k) (λ r m n. true≢false (sym (once-parts .1 r r m n) ∙ unequal-self r)))
+      (stays j (o .kind) (o .a) (o .b) (locksOf os) s (later k) can (goes-on k) (λ r m n. true≢false (sym (once-parts .1 r r m n) ∙ ap not (eq-eqb r r refl))))
 
 -- the first m orders, again, after the first k
-pub again-most : (j : Bool) (os : List Order) (k m : ℕ) (s : Store) → Steady j os s → obeyAgain j (take m os) (obey j (take k os) s) ≡ obey j (take (max k m) os) s
+again-most : (j : Bool) (os : List Order) (k m : ℕ) (s : Store) → Steady j os s → obeyAgain j (take m os) (obey j (take k os) s) ≡ obey j (take (max k m) os) s
 unfolding obeyAgain obey
 again-most j os k zero s h = ap (λ (n : ℕ). obey j (take n os) s) (sym (max-zero k))
 again-most j [] k (suc m) s h = ap (λ (os : List Order). obey j os s) (take-nil k ∙ sym (take-nil (max k (suc m))))
@@ -300,7 +300,7 @@ again-most j (o ∷ os) zero (suc m) s h =
 again-most j (o ∷ os) (suc k) (suc m) s h =
     rw (suc-max-suc k m) (ap (obeyAgain j (take m os)) (left j o os s h k) ∙ again-most j os k m (obeyed j o s) (next j o os s h))
 
--- any number of stops: it is as if the orders as far as it ever came were obeyed once
+-- any number of stops
 restarted-from : (j : Bool) (os : List Order) (ns : List ℕ) (k : ℕ) (s : Store) → Steady j os s
     → restarted j os ns (obey j (take k os) s) ≡ obey j (take (max k (most ns)) os) s
 unfolding restarted most
@@ -309,7 +309,7 @@ restarted-from j os (n ∷ ns) k s h =
     let farthest : max (max k n) (most ns) ≡ max k (max n (most ns)) = omega arith in
     ap (restarted j os ns) (again-most j os k n s h) ∙ restarted-from j os ns (max k n) s h ∙ ap (λ (i : ℕ). obey j (take i os) s) farthest
 
-pub restarted-most : (j : Bool) (os : List Order) (ns : List ℕ) (s : Store) → Steady j os s → restarted j os ns s ≡ obey j (take (most ns) os) s
+restarted-most : (j : Bool) (os : List Order) (ns : List ℕ) (s : Store) → Steady j os s → restarted j os ns s ≡ obey j (take (most ns) os) s
 unfolding obey
 restarted-most j os ns s h = restarted-from j os ns 0 s h ∙ ap (λ (n : ℕ). obey j (take n os) s) (zero-max (most ns))
 
@@ -321,7 +321,7 @@ locks-append [] ps = refl
 locks-append (o ∷ os) ps =
     ap (λ (l : List ℕ). lockOf (o .kind) (o .a) ++ l) (locks-append os ps) ∙ sym (append-assoc (lockOf (o .kind) (o .a)) (locksOf os) (locksOf ps))
 
--- orders of one kind
+-- orders of one kind, which is not 3
 kind-locks : (k v : ℕ) (us : List ℕ) → eqb k 3 ≡ false → locksOf (map (λ u. order k u v) us) ≡ []
 unfolding locksOf lockOf
 kind-locks k v [] e = refl
@@ -348,31 +348,23 @@ at-most-cond : (r : ℕ) (z : Bool) (d e : Done) → AtMost r (d .orders) → At
 at-most-cond r true d e p q = p
 at-most-cond r false d e p q = q
 
-relock-once : (r v : ℕ) (b : Book) → AtMost r (relock r v b .orders)
-unfolding relock done locksOf lockOf
-relock-once r v b = inr refl
-
-nothing-once : (r : ℕ) (b : Book) → AtMost r (done b [] .orders)
-unfolding done locksOf
-nothing-once r b = inl refl
-
 lock-once : (r s : ℕ) (b : Book) → AtMost r (lock r s b .orders)
 unfolding lock _then_ outerVertex relock done locksOf lockOf
 lock-once r s b =
-    at-most-cond r (lockedFor b (resource b r) s) (done b []) (outerVertex s b then relock r (vertexFor (b .outer) s)) (nothing-once r b)
+    at-most-cond r (lockedFor b (resource b r) s) (done b []) (outerVertex s b then relock r (vertexFor (b .outer) s)) (inl refl)
     (inr
     (locks-append (vertexOrders 1 2 (b .outer) s) (order 3 r (vertexFor (b .outer) s) ∷ [])
     ∙ ap (λ (l : List ℕ). l ++ (r ∷ [])) (vertex-locks 1 2 (b .outer) s refl refl)))
 
 lockNew-once : (r : ℕ) (b : Book) → AtMost r (lockNew r b .orders)
-unfolding lockNew lockList
-lockNew-once r b = at-most-cond r (eqb (b .mode) 1 && agrees b r) (done b []) (lockList r b) (nothing-once r b) (lock-once r (resource b r .list) b)
+unfolding lockNew lockList done locksOf
+lockNew-once r b = at-most-cond r (eqb (b .mode) 1 && agrees b r) (done b []) (lockList r b) (inl refl) (lock-once r (resource b r .list) b)
 
 settle-once : (r : ℕ) (b : Book) → AtMost r (settle r b .orders)
-unfolding settle unlock lockList
+unfolding settle unlock lockList relock done locksOf lockOf
 settle-once r b =
     at-most-cond r (eqb (b .mode) 1 && agrees b r) (unlock r b) (lockList r b)
-    (at-most-cond r (hasOuter (resource b r)) (relock r book.none b) (done b []) (relock-once r book.none b) (nothing-once r b))
+    (at-most-cond r (hasOuter (resource b r)) (relock r book.none b) (done b []) (inr refl) (inl refl))
     (lock-once r (resource b r .list) b)
 
 -- locks of is, then at most one of r, which is none of them
@@ -406,7 +398,7 @@ letIn-locks r u b = go (has (holdersOf b r) u)
     go true = refl
     go false = refl
 
--- orders without locks change nothing here
+-- orders without locks do not count
 locks-before : (os ps : List Order) → locksOf os ≡ [] → locksOf (os ++ ps) ≡ locksOf ps
 locks-before os ps e = locks-append os ps ∙ ap (λ (l : List ℕ). l ++ locksOf ps) e
 
@@ -441,37 +433,41 @@ work-once (grants r u) b s (ul, rl, n) =
     ∙ ap (λ (l : List ℕ). l ++ locksOf (settle r (d .book) .orders)) (group-locks (waiters b r u) (holdersOf b r) c))
     ∙ apart-once (waiters b r u) r (settle r (d .book) .orders) (waiters-apart b r u) (λ m. waiters-mem b r u m .1 .other refl) (settle-once r (d .book))
 
--- ---- any request
+-- ---- any request that is accepted
 
-work-steady : (q : Request) (b : Book) → sound b ≡ true → Allowed q b → Steady (isJoin q) (work q b .orders) (storeOf b)
-unfolding storeOf graphOf
-work-steady q b s a =
-    let e = obeyed-work q b s a in
-    let k = work-laws q b s a .0 in
-    record {
-      unspoilt = ap (λ (t : Store). t .spoilt) e;
-      apart = record {
-        inner = ap (λ (t : Store). pairwise otherRow (t .inner .tokens)) e ∙ k .inner .once;
-        outer = ap (λ (t : Store). pairwise otherRow (t .outer .tokens)) e ∙ k .outer .once;
-      };
-      once = work-once q b s a;
-    }
+module _ (t : Tables) (b : Book) (room : ℕ) (q : Request) (h : refusal t b room q ≡ none) where
+  a : Accepted t b room q
+  a = accepted t b room q h
 
--- RULES 6.7: a host that stops and starts, each time from the first order, and leaves what is there, has what it would have had it obeyed the orders as far as
--- it ever came, once each, and stopped
-pub restarts : (t : Tables) (b : Book) (room : ℕ) (q : Request) → refusal t b room q ≡ none → (ns : List ℕ)
-    → restarted (isJoin q) (work q b .orders) ns (storeOf b) ≡ stopped q b (most ns) (storeOf b)
-unfolding stopped
-restarts t b room q h ns =
-    let a = accepted t b room q h in
-    restarted-most (isJoin q) (work q b .orders) ns (storeOf b) (work-steady q b (a .sound′) (a .allowed))
+  ends : obey (isJoin q) (work q b .orders) (storeOf b) ≡ storeOf (work q b .book)
+  ends = obeyed-work q b (a .sound′) (a .allowed)
 
--- and once it has come to the end, it has what the new book has
-pub finishes : (t : Tables) (b : Book) (room : ℕ) (q : Request) → refusal t b room q ≡ none → (ns : List ℕ) → length (work q b .orders) ≤ most ns
-    → restarted (isJoin q) (work q b .orders) ns (storeOf b) ≡ storeOf (work q b .book)
-unfolding stopped
-finishes t b room q h ns l =
-    let a = accepted t b room q h in
-    restarts t b room q h ns
-    ∙ ap (λ (os : List Order). obey (isJoin q) os (storeOf b)) (take-all (most ns) (work q b .orders) l)
-    ∙ obeyed-work q b (a .sound′) (a .allowed)
+  steady : Steady (isJoin q) (work q b .orders) (storeOf b)
+  unfolding storeOf graphOf
+  steady =
+      let k = work-laws q b (a .sound′) (a .allowed) .0 in
+      record {
+        unspoilt = ap (λ (s : Store). s .spoilt) ends;
+        apart = record {
+          inner = ap (λ (s : Store). pairwise otherRow (s .inner .tokens)) ends ∙ k .inner .once;
+          outer = ap (λ (s : Store). pairwise otherRow (s .outer .tokens)) ends ∙ k .outer .once;
+        };
+        once = work-once q b (a .sound′) (a .allowed);
+      }
+
+  -- RULES 6.7 "if k orders were obeyed before the stop, then after obeying m of them again the host has what it has after the larger of k and m orders without
+  -- any stop"
+  pub resumes : (k m : ℕ) → obeyAgain (isJoin q) (take m (work q b .orders)) (stopped q b k (storeOf b)) ≡ stopped q b (max k m) (storeOf b)
+  unfolding stopped
+  resumes k m = again-most (isJoin q) (work q b .orders) k m (storeOf b) steady
+
+  -- "also if it stops again": however often, it has what it has after the most orders that it obeyed at a time
+  pub restarts : (ns : List ℕ) → restarted (isJoin q) (work q b .orders) ns (storeOf b) ≡ stopped q b (most ns) (storeOf b)
+  unfolding stopped
+  restarts ns = restarted-most (isJoin q) (work q b .orders) ns (storeOf b) steady
+
+  -- "and at the end it has the keys, tokens and locks of the new book"
+  pub finishes : (ns : List ℕ) → length (work q b .orders) ≤ most ns
+      → restarted (isJoin q) (work q b .orders) ns (storeOf b) ≡ storeOf (work q b .book)
+  unfolding stopped
+  finishes ns l = restarts ns ∙ ap (λ (os : List Order). obey (isJoin q) os (storeOf b)) (take-all (most ns) (work q b .orders) l) ∙ ends
