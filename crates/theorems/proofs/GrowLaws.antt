@@ -1,13 +1,15 @@
--- What a host has only grows: orders take no key, no token and no encrypted folder away. So whoever derives a key goes on deriving it.
+-- What a host has only grows: orders take no key, no token and no encrypted folder away, and change no lock but of the resources that they name. So whoever
+-- derives a key goes on deriving it.
 -- Assumes nothing.
 use Prim.Native.Nat.{ℕ, zero, suc, _<_}
 use mathlib.Core.Path.{_≡_, refl, sym, ap, _∙_, subst}
 use mathlib.Core.Bool.{Bool, true, false, cond}
 use mathlib.Core.Logic.{_≢_}
-use mathlib.Core.List.{List, [], _∷_, _++_, append-nil, append-assoc, List·Memᴰ, List·Memᴰ·head, List·Memᴰ·tail, Memᴰ·append-left}
+use mathlib.Core.List.{List, [], _∷_, _++_, append-nil, append-assoc, List·Memᴰ, List·Memᴰ·head, List·Memᴰ·tail, List·Memᴰ·not-nil, Memᴰ·append-left, Memᴰ·append-right}
 use native.Mathlib.Omega.{arith}
 use lib.Dec.{eqb}
 use lib.ListN.{length, getD, take, drop, take-append-drop, length-append, List·getD-append}
+use lib.Seq.{take-length}
 use borrow.Author.Tests.{ne-eqb}
 use Rattle.rules.specs.Layer.{token}
 use Rattle.rules.specs.Derivation.{Key, main}
@@ -23,17 +25,17 @@ pub record Longer {A : Type 0} (xs ys : List A) : Type 0 where
   pub is : ys ≡ xs ++ more
 
 module _ {A : Type 0} where
-  pub longer-self : (xs : List A) → Longer xs xs
+  longer-self : (xs : List A) → Longer xs xs
   longer-self xs = record { more = []; is = sym (append-nil xs) }
 
-  pub longer-by : (xs : List A) (x : A) → Longer xs (xs ++ (x ∷ []))
+  longer-by : (xs : List A) (x : A) → Longer xs (xs ++ (x ∷ []))
   longer-by xs x = record { more = x ∷ []; is = refl }
 
-  pub longer-still : {xs ys zs : List A} → Longer xs ys → Longer ys zs → Longer xs zs
+  longer-still : {xs ys zs : List A} → Longer xs ys → Longer ys zs → Longer xs zs
   longer-still {xs} p q =
       record { more = p .more ++ q .more; is = q .is ∙ ap (λ (l : List A). l ++ q .more) (p .is) ∙ append-assoc xs (p .more) (q .more) }
 
-  pub longer-mem : {xs ys : List A} {x : A} → Longer xs ys → List·Memᴰ x xs → List·Memᴰ x ys
+  longer-mem : {xs ys : List A} {x : A} → Longer xs ys → List·Memᴰ x xs → List·Memᴰ x ys
   longer-mem {x = x} p m = subst (λ (l : List A). List·Memᴰ x l) (sym (p .is)) (Memᴰ·append-left (p .more) m)
 
   pub longer-at : {xs ys : List A} → Longer xs ys → (i : ℕ) (d : A) → i < length xs → (i < length ys) × (getD ys i d ≡ getD xs i d)
@@ -42,6 +44,23 @@ module _ {A : Type 0} where
     ap (λ (l : List A). getD l i d) (p .is) ∙ List·getD-append xs (p .more) d i l,
   )
 
+  -- what was put at the end stays
+  pub put-there : (xs : List A) (x : A) {ys : List A} → Longer (xs ++ (x ∷ [])) ys → List·Memᴰ x ys
+  put-there xs x p = longer-mem p (Memᴰ·append-right xs (List·Memᴰ·head refl))
+
+-- ---- the resources that orders lock
+
+unfoldable pub lockOf : ℕ → ℕ → List ℕ
+lockOf k r = cond (eqb k 3) (r ∷ []) []
+
+unfoldable pub locksOf : List Order → List ℕ
+locksOf [] = []
+locksOf (o ∷ os) = lockOf (o .kind) (o .a) ++ locksOf os
+
+pub no-lock : (k r i : ℕ) → k ≢ 3 → List·Memᴰ i (lockOf k r) → ⊥
+unfolding lockOf
+no-lock k r i n m = List·Memᴰ·not-nil (subst (λ (z : Bool). List·Memᴰ i (cond z (r ∷ []) [])) (ne-eqb k 3 n) m)
+
 -- ---- graphs and stores
 
 pub record Extends (g h : Graph) : Type 0 where
@@ -49,21 +68,15 @@ pub record Extends (g h : Graph) : Type 0 where
   pub tokens : Longer (g .tokens) (h .tokens)
   pub handed : Longer (g .handed) (h .handed)
 
-pub record Grows (s t : Store) : Type 0 where
+-- all that was made is there, and the locks are as they were, but those of the resources rs
+pub record Grows (rs : List ℕ) (s t : Store) : Type 0 where
   pub inner : Extends (s .inner) (t .inner)
   pub outer : Extends (s .outer) (t .outer)
   pub keys : Longer (s .keys) (t .keys)
+  pub lock : (r : ℕ) → (List·Memᴰ r rs → ⊥) → t .lock r ≡ s .lock r
 
-extends-self : (g : Graph) → Extends g g
-extends-self g = record { vertices = longer-self (g .vertices); tokens = longer-self (g .tokens); handed = longer-self (g .handed) }
-
-pub extends-still : {f g h : Graph} → Extends f g → Extends g h → Extends f h
-extends-still p q =
-    record {
-      vertices = longer-still (p .vertices) (q .vertices);
-      tokens = longer-still (p .tokens) (q .tokens);
-      handed = longer-still (p .handed) (q .handed);
-    }
+same-graph : (g : Graph) → Extends g g
+same-graph g = record { vertices = longer-self (g .vertices); tokens = longer-self (g .tokens); handed = longer-self (g .handed) }
 
 key-extends : (j : Bool) (v : ℕ) (g : Graph) → Extends g (addKey j v g)
 unfolding addKey
@@ -74,49 +87,79 @@ token-extends : (t : Token) (g : Graph) → Extends g (addToken t g)
 unfolding addToken
 token-extends t g = record { vertices = longer-self (g .vertices); tokens = longer-by (g .tokens) t; handed = longer-self (g .handed) }
 
-grows-self : (s : Store) → Grows s s
-grows-self s = record { inner = extends-self (s .inner); outer = extends-self (s .outer); keys = longer-self (s .keys) }
+extends-still : {f g h : Graph} → Extends f g → Extends g h → Extends f h
+extends-still p q =
+    record {
+      vertices = longer-still (p .vertices) (q .vertices);
+      tokens = longer-still (p .tokens) (q .tokens);
+      handed = longer-still (p .handed) (q .handed);
+    }
 
-grows-still : {s t w : Store} → Grows s t → Grows t w → Grows s w
-grows-still p q =
-    record { inner = extends-still (p .inner) (q .inner); outer = extends-still (p .outer) (q .outer); keys = longer-still (p .keys) (q .keys) }
+grows-still : {ps rs : List ℕ} {s t w : Store} → Grows ps s t → Grows rs t w → Grows (ps ++ rs) s w
+grows-still {ps} {rs} p q =
+    record {
+      inner = extends-still (p .inner) (q .inner);
+      outer = extends-still (p .outer) (q .outer);
+      keys = longer-still (p .keys) (q .keys);
+      lock = λ r n. q .lock r (λ m. n (Memᴰ·append-right ps m)) ∙ p .lock r (λ m. n (Memᴰ·append-left rs m));
+    }
+
+-- nothing done, spoilt or not
+stay : (rs : List ℕ) (z : Bool) (s : Store)
+    → Grows rs s (record { inner = s .inner; outer = s .outer; keys = s .keys; lock = s .lock; spoilt = z })
+stay rs z s = record { inner = same-graph (s .inner); outer = same-graph (s .outer); keys = longer-self (s .keys); lock = λ r n. refl }
+
+inner-grows : (g : Graph) (s : Store) → Extends (s .inner) g → Grows [] s (putInner g s)
+unfolding putInner
+inner-grows g s m = record { inner = m; outer = same-graph (s .outer); keys = longer-self (s .keys); lock = λ r n. refl }
+
+outer-grows : (g : Graph) (s : Store) → Extends (s .outer) g → Grows [] s (putOuter g s)
+unfolding putOuter
+outer-grows g s m = record { inner = same-graph (s .inner); outer = m; keys = longer-self (s .keys); lock = λ r n. refl }
 
 -- ---- an order, and orders one after the other
 
-made-grows : (j : Bool) (k x y : ℕ) (s : Store) → Grows s (made j k x y s)
-unfolding made putInner putOuter putKeys putLock
-made-grows j zero x y s = grows-self s
-made-grows j (suc zero) x y s = record { inner = extends-self (s .inner); outer = key-extends j x (s .outer); keys = longer-self (s .keys) }
-made-grows j (suc (suc zero)) x y s =
-    record { inner = extends-self (s .inner); outer = token-extends (token x y 0) (s .outer); keys = longer-self (s .keys) }
-made-grows j (suc (suc (suc zero))) x y s = record { inner = extends-self (s .inner); outer = extends-self (s .outer); keys = longer-self (s .keys) }
-made-grows j (suc (suc (suc (suc zero)))) x y s =
-    record { inner = key-extends j x (s .inner); outer = extends-self (s .outer); keys = longer-self (s .keys) }
-made-grows j (suc (suc (suc (suc (suc zero))))) x y s =
-    record { inner = token-extends (token x y 0) (s .inner); outer = extends-self (s .outer); keys = longer-self (s .keys) }
-made-grows j (suc (suc (suc (suc (suc (suc zero)))))) x y s =
-    record { inner = token-extends (token x y 1) (s .inner); outer = extends-self (s .outer); keys = longer-self (s .keys) }
+made-grows : (j : Bool) (k x y : ℕ) (s : Store) → Grows (lockOf k x) s (made j k x y s)
+unfolding made putKeys putLock lockOf
+made-grows j zero x y s = stay [] (s .spoilt) s
+made-grows j (suc zero) x y s = outer-grows (addKey j x (s .outer)) s (key-extends j x (s .outer))
+made-grows j (suc (suc zero)) x y s = outer-grows (addToken (token x y 0) (s .outer)) s (token-extends (token x y 0) (s .outer))
+made-grows j (suc (suc (suc zero))) x y s =
+    record {
+      inner = same-graph (s .inner);
+      outer = same-graph (s .outer);
+      keys = longer-self (s .keys);
+      lock = λ r n. ap (λ (z : Bool). cond z y (s .lock r)) (ne-eqb r x (λ e. n (List·Memᴰ·head e)));
+    }
+made-grows j (suc (suc (suc (suc zero)))) x y s = inner-grows (addKey j x (s .inner)) s (key-extends j x (s .inner))
+made-grows j (suc (suc (suc (suc (suc zero))))) x y s = inner-grows (addToken (token x y 0) (s .inner)) s (token-extends (token x y 0) (s .inner))
+made-grows j (suc (suc (suc (suc (suc (suc zero)))))) x y s = inner-grows (addToken (token x y 1) (s .inner)) s (token-extends (token x y 1) (s .inner))
 made-grows j (suc (suc (suc (suc (suc (suc (suc zero))))))) x y s =
-    record { inner = extends-self (s .inner); outer = extends-self (s .outer); keys = longer-by (s .keys) y }
-made-grows j (suc (suc (suc (suc (suc (suc (suc (suc k)))))))) x y s = grows-self s
+    record { inner = same-graph (s .inner); outer = same-graph (s .outer); keys = longer-by (s .keys) y; lock = λ r n. refl }
+made-grows j (suc (suc (suc (suc (suc (suc (suc (suc k)))))))) x y s = stay (lockOf (suc (suc (suc (suc (suc (suc (suc (suc k)))))))) x) (s .spoilt) s
 
-pub obeyed-grows : (j : Bool) (o : Order) (s : Store) → Grows s (obeyed j o s)
+pub obeyed-grows : (j : Bool) (o : Order) (s : Store) → Grows (lockOf (o .kind) (o .a)) s (obeyed j o s)
 unfolding obeyed spoil
 obeyed-grows j o s = go (canObey (o .kind) (o .a) (o .b) s)
   where
-    go : (z : Bool) → Grows s (cond z (made j (o .kind) (o .a) (o .b) s) (spoil s))
+    go : (z : Bool) → Grows (lockOf (o .kind) (o .a)) s (cond z (made j (o .kind) (o .a) (o .b) s) (spoil s))
     go true = made-grows j (o .kind) (o .a) (o .b) s
-    go false = record { inner = extends-self (s .inner); outer = extends-self (s .outer); keys = longer-self (s .keys) }
+    go false = stay (lockOf (o .kind) (o .a)) true s
 
-pub obey-grows : (j : Bool) (os : List Order) (s : Store) → Grows s (obey j os s)
-unfolding obey
-obey-grows j [] s = grows-self s
-obey-grows j (o ∷ os) s = grows-still (obeyed-grows j o s) (obey-grows j os (obeyed j o s))
+-- wherever the host stops
+pub stop-grows : (j : Bool) (k : ℕ) (os : List Order) (s : Store) → Grows (locksOf os) s (obey j (take k os) s)
+unfolding obey locksOf
+stop-grows j zero os s = stay (locksOf os) (s .spoilt) s
+stop-grows j (suc k) [] s = stay [] (s .spoilt) s
+stop-grows j (suc k) (o ∷ os) s = grows-still (obeyed-grows j o s) (stop-grows j k os (obeyed j o s))
 
--- where the host stops is on the way
-pub stop-grows : (j : Bool) (os : List Order) (k : ℕ) (s : Store) → Grows (obey j (take k os) s) (obey j os s)
-stop-grows j os k s =
-    subst (Grows (obey j (take k os) s))
+pub obey-grows : (j : Bool) (os : List Order) (s : Store) → Grows (locksOf os) s (obey j os s)
+obey-grows j os s = subst (λ (l : List Order). Grows (locksOf os) s (obey j l s)) (take-length os) (stop-grows j (length os) os s)
+
+-- and goes on from there
+pub rest-grows : (j : Bool) (os : List Order) (k : ℕ) (s : Store) → Grows (locksOf (drop k os)) (obey j (take k os) s) (obey j os s)
+rest-grows j os k s =
+    subst (Grows (locksOf (drop k os)) (obey j (take k os) s))
     (sym (obey-append j (take k os) (drop k os) s) ∙ ap (λ (l : List Order). obey j l s) (take-append-drop k os)) (obey-grows j (drop k os) (obey j (take k os) s))
 
 -- ---- what is derived goes on being derived
@@ -127,44 +170,29 @@ knows-more e (hash d) = hash (knows-more e d)
 knows-more e (step m k d) = step (longer-mem (e .tokens) m) k (knows-more e d)
 knows-more e (given m k d) = given (longer-mem (e .tokens) m) k (knows-more e d)
 
--- ---- what an order leaves
+-- ---- orders that encrypt nothing
 
--- the lock of r
-abbrev pub Spares : ℕ → Order → Type 0
-Spares r o = o .kind ≡ 3 → o .a ≢ r
-
-made-spares : (j : Bool) (k x y : ℕ) (s : Store) (r : ℕ) → ((k ≡ 3 → x ≢ r) → made j k x y s .lock r ≡ s .lock r) × (k ≢ 7 → made j k x y s .keys ≡ s .keys)
+made-keys : (j : Bool) (k x y : ℕ) (s : Store) → k ≢ 7 → made j k x y s .keys ≡ s .keys
 unfolding made putInner putOuter putKeys putLock
-made-spares j zero x y s r = (λ h. refl, λ h. refl)
-made-spares j (suc zero) x y s r = (λ h. refl, λ h. refl)
-made-spares j (suc (suc zero)) x y s r = (λ h. refl, λ h. refl)
-made-spares j (suc (suc (suc zero))) x y s r = (λ h. ap (λ (z : Bool). cond z y (s .lock r)) (ne-eqb r x (λ e. h refl (sym e))), λ h. refl)
-made-spares j (suc (suc (suc (suc zero)))) x y s r = (λ h. refl, λ h. refl)
-made-spares j (suc (suc (suc (suc (suc zero))))) x y s r = (λ h. refl, λ h. refl)
-made-spares j (suc (suc (suc (suc (suc (suc zero)))))) x y s r = (λ h. refl, λ h. refl)
-made-spares j (suc (suc (suc (suc (suc (suc (suc zero))))))) x y s r = (λ h. refl, λ h. absurd (h refl))
-made-spares j (suc (suc (suc (suc (suc (suc (suc (suc k)))))))) x y s r = (λ h. refl, λ h. refl)
+made-keys j zero x y s n = refl
+made-keys j (suc zero) x y s n = refl
+made-keys j (suc (suc zero)) x y s n = refl
+made-keys j (suc (suc (suc zero))) x y s n = refl
+made-keys j (suc (suc (suc (suc zero)))) x y s n = refl
+made-keys j (suc (suc (suc (suc (suc zero))))) x y s n = refl
+made-keys j (suc (suc (suc (suc (suc (suc zero)))))) x y s n = refl
+made-keys j (suc (suc (suc (suc (suc (suc (suc zero))))))) x y s n = absurd (n refl)
+made-keys j (suc (suc (suc (suc (suc (suc (suc (suc k)))))))) x y s n = refl
 
--- the encrypted folders, where it encrypts none
-pub obeyed-spares : (j : Bool) (o : Order) (s : Store) (r : ℕ) → (Spares r o → obeyed j o s .lock r ≡ s .lock r) × (o .kind ≢ 7 → obeyed j o s .keys ≡ s .keys)
+obeyed-keys : (j : Bool) (o : Order) (s : Store) → o .kind ≢ 7 → obeyed j o s .keys ≡ s .keys
 unfolding obeyed spoil
-obeyed-spares j o s r = go (canObey (o .kind) (o .a) (o .b) s)
+obeyed-keys j o s n = go (canObey (o .kind) (o .a) (o .b) s)
   where
-    t : Bool → Store
-    t z = cond z (made j (o .kind) (o .a) (o .b) s) (spoil s)
-
-    go : (z : Bool) → (Spares r o → t z .lock r ≡ s .lock r) × (o .kind ≢ 7 → t z .keys ≡ s .keys)
-    go true = made-spares j (o .kind) (o .a) (o .b) s r
-    go false = (λ h. refl, λ h. refl)
-
-pub obey-lock : (j : Bool) (os : List Order) (s : Store) (r : ℕ) → Each (Spares r) os → obey j os s .lock r ≡ s .lock r
-unfolding obey
-obey-lock j [] s r f = refl
-obey-lock j (o ∷ os) s r f =
-    obey-lock j os (obeyed j o s) r (λ p m. f p (List·Memᴰ·tail m)) ∙ obeyed-spares j o s r .0 (f o (List·Memᴰ·head refl))
+    go : (z : Bool) → cond z (made j (o .kind) (o .a) (o .b) s) (spoil s) .keys ≡ s .keys
+    go true = made-keys j (o .kind) (o .a) (o .b) s n
+    go false = refl
 
 pub obey-keys : (j : Bool) (os : List Order) (s : Store) → Each (λ o. o .kind ≢ 7) os → obey j os s .keys ≡ s .keys
 unfolding obey
 obey-keys j [] s f = refl
-obey-keys j (o ∷ os) s f =
-    obey-keys j os (obeyed j o s) (λ p m. f p (List·Memᴰ·tail m)) ∙ obeyed-spares j o s 0 .1 (f o (List·Memᴰ·head refl))
+obey-keys j (o ∷ os) s f = obey-keys j os (obeyed j o s) (λ p m. f p (List·Memᴰ·tail m)) ∙ obeyed-keys j o s (f o (List·Memᴰ·head refl))

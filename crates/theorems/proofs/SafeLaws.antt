@@ -5,10 +5,10 @@ use Prim.Native.Nat.{ℕ, zero, suc, _+_, _≤_, _<_}
 use mathlib.Core.Path.{_≡_, refl, sym, ap, _∙_, subst}
 use mathlib.Core.Bool.{Bool, true, false, not, cond}
 use mathlib.Core.Logic.{_⊎_, inl, inr, _↔_, _≢_}
-use mathlib.Core.List.{List, [], _∷_, _++_, append-nil, append-assoc, List·Memᴰ, Memᴰ·append-left}
+use mathlib.Core.List.{List, [], _∷_, _++_, append-nil, append-assoc, List·Memᴰ, List·Memᴰ·not-nil, List·Memᴰ·eq-of-singleton, Memᴰ·append-left}
 use mathlib.Core.Option as option
 use native.Mathlib.Omega.{arith}
-use lib.ListN.{length, getD, take}
+use lib.ListN.{length, getD, take, drop}
 use Rattle.sets.specs.Sets.{has, single, minus, within}
 use Rattle.sets.proofs.Laws.{both, has-within, has-minus}
 use Rattle.rules.specs.Layer.{Layer, token, vertexFor}
@@ -32,7 +32,8 @@ use Rattle.theorems.proofs.SoundLaws.{sound-kept, sound-counts}
 use Rattle.theorems.proofs.AccessLaws.{list-at, list-access, letIn-access, work-access}
 use Rattle.theorems.proofs.RequestLaws.{Allowed, accepted, work-sound}
 use Rattle.theorems.proofs.HostLaws.{Each, Outer, inward, same-half, other-half, unspoilt-before, Told, kept-standing, each-none, each-one, each-both, each-take, vertex-each, lockNew-each, lock-outer, lockNear-outer, letIn-inner, withList-told, lockAll-told, letIn-told, obeyed-work, moved, lockAll-outer}
-use Rattle.theorems.proofs.GrowLaws.{Grows, obey-grows, stop-grows, Spares, obey-lock, obey-keys}
+use Rattle.theorems.proofs.GrowLaws.{lockOf, locksOf, Grows, stop-grows, obey-grows, rest-grows, obey-keys}
+use Rattle.theorems.proofs.OnceLaws.{locks-append, AtMost, insert-once}
 use Rattle.theorems.proofs.StopLaws.{Through, through-take, through-append, through-end, Within, within-self, within-still, lock-within, lockAll-within, settle-within, Fine, at, lock-through, run-through, settle-through, fine-safe, still-safe, end-safe}
 
 -- ---- a list of orders, of which at most one comes last
@@ -57,7 +58,7 @@ take-late (o ∷ front) last (suc k) few = go (take-late front last k few)
 -- safe before the last order, and at the end, is safe everywhere
 module _ (b c : Book) (hc : sound c ≡ true) (j : Bool) (os front last : List Order) (split : os ≡ front ++ last) (few : length last ≤ 1)
     (ends : obey j os (storeOf b) ≡ storeOf c) where
-  pub stops-safe : ((n : ℕ) → let s = obey j (take n front) (storeOf b) in Grows s (storeOf c) → s .spoilt ≡ false → Safe b c s)
+  pub stops-safe : ((n : ℕ) → let s = obey j (take n front) (storeOf b) in (ps : List ℕ) → Grows ps s (storeOf c) → s .spoilt ≡ false → Safe b c s)
       → (k : ℕ) → Safe b c (obey j (take k os) (storeOf b))
   unfolding storeOf
   stops-safe f k = go (take-late front last k few)
@@ -65,8 +66,11 @@ module _ (b c : Book) (hc : sound c ≡ true) (j : Bool) (os front last : List O
       S : List Order → Store
       S l = obey j l (storeOf b)
 
-      behind : Grows (S (take k os)) (storeOf c)
-      behind = subst (Grows (S (take k os))) ends (stop-grows j os k (storeOf b))
+      ps : List ℕ
+      ps = locksOf (drop k os)
+
+      behind : Grows ps (S (take k os)) (storeOf c)
+      behind = subst (Grows ps (S (take k os))) ends (rest-grows j os k (storeOf b))
 
       sane : S (take k os) .spoilt ≡ false
       sane = unspoilt-before j os k (storeOf b) (ap (λ (s : Store). s .spoilt) ends)
@@ -78,7 +82,7 @@ module _ (b c : Book) (hc : sound c ≡ true) (j : Bool) (os front last : List O
       go (inl e) = subst (Safe b c) (sym (ap S (to (front ++ last) e ∙ sym split) ∙ ends)) (end-safe b c hc)
       go (inr (n, e)) =
           subst (λ (l : List Order). Safe b c (S l)) (sym (to (take n front) e))
-          (f n (subst (λ (l : List Order). Grows (S l) (storeOf c)) (to (take n front) e) behind)
+          (f n ps (subst (λ (l : List Order). Grows ps (S l) (storeOf c)) (to (take n front) e) behind)
           (subst (λ (l : List Order). S l .spoilt ≡ false) (to (take n front) e) sane))
 
 -- ---- revoke and grant: before the last order there are orders of the outer layer alone
@@ -87,10 +91,10 @@ module _ (b c : Book) (hb : sound b ≡ true) (hc : sound c ≡ true) (os front 
     (ends : obey false os (storeOf b) ≡ storeOf c) (outer : Each Outer front) (w : Within (b .outer) (c .outer)) (fine : Through (Fine b c) front (storeOf b)) where
   pub locks-safe : (k : ℕ) → Safe b c (obey false (take k os) (storeOf b))
   locks-safe =
-      stops-safe b c hc false os front last split few ends (λ n g z.
+      stops-safe b c hc false os front last split few ends (λ n ps g z.
       let s : Store = obey false (take n front) (storeOf b) in
       let (i, ks) = same-half false (take n front) (storeOf b) (each-take Outer front n outer) in
-      fine-safe b c hb hc s (obey-grows false (take n front) (storeOf b)) g ks z i w (through-take (Fine b c) front (storeOf b) fine n))
+      fine-safe b c hb hc s (stop-grows false n front (storeOf b)) g ks z i w (through-take (Fine b c) front (storeOf b) fine n))
 
 -- at the start every lock is the old one
 begins : (b c : Book) → Fine b c (storeOf b)
@@ -265,31 +269,32 @@ module _ (b : Book) (hb : sound b ≡ true) (r u : ℕ) (l : r < length (b .reso
 -- ---- join and insert: no lock of a folder that is there changes
 
 module _ (b c : Book) (hb : sound b ≡ true) (hc : sound c ≡ true) (j : Bool) (os front last : List Order) (split : os ≡ front ++ last) (few : length last ≤ 1)
-    (ends : obey j os (storeOf b) ≡ storeOf c) (spares : (r : ℕ) → r < length (b .resources) → Each (Spares r) os) (keys : Each (λ o. o .kind ≢ 7) front) where
+    (ends : obey j os (storeOf b) ≡ storeOf c) (free : (r : ℕ) → r < length (b .resources) → List·Memᴰ r (locksOf os) → ⊥) (keys : Each (λ o. o .kind ≢ 7) front) where
   lock-end : (r : ℕ) → r < length (b .resources) → resource c r .outer ≡ resource b r .outer
   unfolding storeOf
-  lock-end r l = ap (λ (s : Store). s .lock r) (sym ends) ∙ obey-lock j os (storeOf b) r (spares r l)
+  lock-end r l = ap (λ (s : Store). s .lock r) (sym ends) ∙ obey-grows j os (storeOf b) .lock r (free r l)
 
-  spared : (r : ℕ) → r < length (b .resources) → Each (Spares r) front
-  spared r l o m = spares r l o (subst (λ (l : List Order). List·Memᴰ o l) (sym split) (Memᴰ·append-left last m))
+  -- the orders in front lock nothing else
+  front-free : (r : ℕ) → r < length (b .resources) → List·Memᴰ r (locksOf front) → ⊥
+  front-free r l m = free r l (subst (λ (is : List ℕ). List·Memᴰ r is) (sym (ap locksOf split ∙ locks-append front last)) (Memᴰ·append-left (locksOf last) m))
 
   lock-on-way : (n r : ℕ) → r < length (b .resources) → obey j (take n front) (storeOf b) .lock r ≡ resource b r .outer
   unfolding storeOf
-  lock-on-way n r l = obey-lock j (take n front) (storeOf b) r (each-take (Spares r) front n (spared r l))
+  lock-on-way n r l = stop-grows j n front (storeOf b) .lock r (front-free r l)
 
   pub adds-safe : (k : ℕ) → Safe b c (obey j (take k os) (storeOf b))
   adds-safe =
-      stops-safe b c hc j os front last split few ends (λ n g z.
-      still-safe b c hb hc (obey j (take n front) (storeOf b)) (obey-grows j (take n front) (storeOf b)) g
+      stops-safe b c hc j os front last split few ends (λ n ps g z.
+      still-safe b c hb hc (obey j (take n front) (storeOf b)) (stop-grows j n front (storeOf b)) g
       (obey-keys j (take n front) (storeOf b) (each-take (λ o. o .kind ≢ 7) front n keys)) z
       (λ r l. (lock-on-way n r l, lock-on-way n r l ∙ sym (lock-end r l))))
 
 pub join-safe : (b : Book) → sound b ≡ true → sound (join b .book) ≡ true → obey true (join b .orders) (storeOf b) ≡ storeOf (join b .book)
     → (k : ℕ) → Safe b (join b .book) (obey true (take k (join b .orders)) (storeOf b))
-unfolding join done
+unfolding join done locksOf lockOf
 join-safe b hb hc ends =
-    adds-safe b (join b .book) hb hc true os os [] refl (omega arith) ends
-    (λ r l. two (Spares r) (λ e. omega arith) (λ e. omega arith)) (two (λ o. o .kind ≢ 7) (λ e. omega arith) (λ e. omega arith))
+    adds-safe b (join b .book) hb hc true os os [] refl (omega arith) ends (λ r l m. List·Memᴰ·not-nil m)
+    (each-both (λ o. o .kind ≢ 7) (i ∷ []) (o ∷ []) (each-one (λ o. o .kind ≢ 7) i (λ e. omega arith)) (each-one (λ o. o .kind ≢ 7) o (λ e. omega arith)))
   where
     i : Order
     i = order 4 (length (b .inner .sets)) 0
@@ -300,15 +305,11 @@ join-safe b hb hc ends =
     os : List Order
     os = i ∷ o ∷ []
 
-    two : (P : Order → Type 0) → P i → P o → Each P os
-    two P x y = each-both P (i ∷ []) (o ∷ []) (each-one P i x) (each-one P o y)
-
 pub insert-safe : (l : ℕ) (b : Book) → sound b ≡ true → sound (insert l b .book) ≡ true → obey false (insert l b .orders) (storeOf b) ≡ storeOf (insert l b .book)
     → (k : ℕ) → Safe b (insert l b .book) (obey false (take k (insert l b .orders)) (storeOf b))
 unfolding insert _then_ toldLast innerVertex encrypt done withInner withResources
 insert-safe l b hb hc ends =
-    adds-safe b (insert l b .book) hb hc false (vs ++ (ls ++ last)) (vs ++ ls) last (sym (append-assoc vs ls last)) (omega arith) ends
-    (λ r m. each-both (Spares r) vs (ls ++ last) (vertex r) (each-both (Spares r) ls last (locks r m) (each-one (Spares r) (order 7 n v) (λ e. omega arith))))
+    adds-safe b (insert l b .book) hb hc false (vs ++ (ls ++ last)) (vs ++ ls) last (sym (append-assoc vs ls last)) (omega arith) ends (λ r m. free r m (insert-once l b))
     (each-both Plain vs ls (vertex-each Plain 4 5 (b .inner) l (λ x e. omega arith) (λ x y e. omega arith))
     (lockNew-each Plain n d (λ x e. omega arith) (λ x y e. omega arith) (λ x e. omega arith)))
   where
@@ -333,11 +334,9 @@ insert-safe l b hb hc ends =
     last : List Order
     last = order 7 n v ∷ []
 
-    vertex : (r : ℕ) → Each (Spares r) vs
-    vertex r = vertex-each (Spares r) 4 5 (b .inner) l (λ x e. omega arith) (λ x y e. omega arith)
-
-    locks : (r : ℕ) → r < n → Each (Spares r) ls
-    locks r m = lockNew-each (Spares r) n d (λ x e. omega arith) (λ x y e. omega arith) (λ x e p. omega arith)
+    free : (r : ℕ) → r < n → AtMost n (vs ++ (ls ++ last)) → List·Memᴰ r (locksOf (vs ++ (ls ++ last))) → ⊥
+    free r l (inl e) m = List·Memᴰ·not-nil (subst (λ (is : List ℕ). List·Memᴰ r is) e m)
+    free r l (inr e) m = omega (arith, List·Memᴰ·eq-of-singleton (subst (λ (is : List ℕ). List·Memᴰ r is) e m))
 
 -- ---- any request
 

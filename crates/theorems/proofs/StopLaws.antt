@@ -30,7 +30,7 @@ use Rattle.theorems.proofs.GroupLaws.{withVertex-set}
 use Rattle.theorems.proofs.KnowsLaws.{knows-main}
 use Rattle.theorems.proofs.SoundLaws.{sound-kept}
 use Rattle.theorems.proofs.HostLaws.{Each, Outer, inward, moved, obey-append, Standing, vertex-longer, vertex-each, lock-outer, lockAll-outer, relock-told, lock-told, lockAll-told, each-one}
-use Rattle.theorems.proofs.GrowLaws.{Longer, longer-at, Extends, Grows, obeyed-grows, obey-grows, knows-more, obeyed-spares}
+use Rattle.theorems.proofs.GrowLaws.{longer-at, no-lock, Extends, Grows, obeyed-grows, obey-grows, knows-more}
 use Rattle.theorems.proofs.HostOpensLaws.{host-knows, host-opens, keys-count}
 
 -- ---- every state on the way through a list of orders, of a request that is no join
@@ -131,7 +131,7 @@ module _ (b c : Book) where
   plain-through (o ∷ os) f s h = (
     h,
     plain-through os (λ p m. f p (List·Memᴰ·tail m)) (obeyed false o s) (λ r l.
-        ward-more s (obeyed false o s) r (obeyed-spares false o s r .0 (λ e. absurd (f o (List·Memᴰ·head refl) e))) (obeyed-grows false o s .outer) (h r l)),
+        ward-more s (obeyed false o s) r (obeyed-grows false o s .lock r (no-lock (o .kind) (o .a) r (f o (List·Memᴰ·head refl)))) (obeyed-grows false o s .outer) (h r l)),
   )
 
   -- the host whose outer half is that of m
@@ -260,7 +260,8 @@ module _ (b c : Book) where
 
 -- ---- what opens on the way
 
-module _ (b c : Book) (hb : sound b ≡ true) (hc : sound c ≡ true) (s : Store) (before : Grows (storeOf b) s) (behind : Grows s (storeOf c)) where
+module _ (b c : Book) (hb : sound b ≡ true) (hc : sound c ≡ true) (s : Store) {rs ps : List ℕ} (before : Grows rs (storeOf b) s)
+    (behind : Grows ps s (storeOf c)) where
   old-row : (r : ℕ) → r < length (b .resources) → getD (s .keys) r 0 ≡ getD (storeOf b .keys) r 0
   old-row r l = longer-at (before .keys) r 0 (omega (arith, keys-count b)) .1
 
