@@ -4,7 +4,7 @@ use Prim.Native.Nat.{ℕ, _<_}
 use mathlib.Core.Path.{_≡_}
 use mathlib.Core.Bool.{Bool, true, false, cond}
 use mathlib.Core.Logic.{_⊎_}
-use mathlib.Core.List.{List, [], _∷_}
+use mathlib.Core.List.{List, []}
 use lib.Dec.{eqb, ltb}
 use lib.ListN.{length, take}
 use Rattle.sets.specs.Sets.{has}
@@ -13,6 +13,7 @@ use Rattle.rules.specs.Refusals.{Request, joins, inserts, grants, revoke
 use Rattle.rules.specs.Calls.{change, ordersIn}
 use Rattle.rules.specs.Runs.{Kept}
 use Rattle.rules.specs.Host.{Store, HostOpens, obey, isJoin}
+use Rattle.rules.specs.declared.Order.{Order}
 use Rattle.rules.specs.declared.Changed.{Changed}
 use Rattle.rules.specs.declared.Changed.the-variants as changed
 
@@ -38,12 +39,13 @@ names (inserts l) b r = eqb r (length (b .resources))
 names (grants i u) b r = eqb r i
 names (revokes i u) b r = eqb r i
 
--- the first k rows of those that a call gave
-unfoldable pub obeyFirst : Request → Changed → List ℕ → ℕ → Store → Store
-obeyFirst q (changed.Done h n) list k s = obey (isJoin q) (take k (ordersIn n list)) s
-obeyFirst q (changed.No r) list k s = s
+-- ---- the orders as a call gave them: its rows in the list lent, none where it refused
 
-unfoldable pub stoppedCall : Request → List ℕ → Kept → ℕ → Store → Store
-stoppedCall q list k n s =
+unfoldable pub ordersGiven : Changed → List ℕ → List Order
+ordersGiven (changed.Done h n) list = ordersIn n list
+ordersGiven (changed.No r) list = []
+
+unfoldable pub ordersOf : Request → List ℕ → Kept → List Order
+ordersOf q list k =
     let c = change q (k .head) (k .tables) list in
-    obeyFirst q (c .answer) (c .orders) n s
+    ordersGiven (c .answer) (c .orders)

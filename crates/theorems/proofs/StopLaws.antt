@@ -260,6 +260,10 @@ module _ (b c : Book) where
 
 -- ---- what opens on the way
 
+pub old-list : (b c : Book) (r u : ℕ) → r < length (b .resources) → has (oldList b c r) u ≡ has (resource b r .list) u
+unfolding oldList
+old-list b c r u l = ap (λ (z : Bool). has (cond z (resource b r .list) (resource c r .list)) u) (lt-ltb r (length (b .resources)) l)
+
 module _ (b c : Book) (hb : sound b ≡ true) (hc : sound c ≡ true) (s : Store) {rs ps : List ℕ} (before : Grows rs (storeOf b) s)
     (behind : Grows ps s (storeOf c)) where
   old-row : (r : ℕ) → r < length (b .resources) → getD (s .keys) r 0 ≡ getD (storeOf b .keys) r 0
@@ -328,10 +332,6 @@ module _ (b c : Book) (hb : sound b ≡ true) (hc : sound c ≡ true) (s : Store
           let k : HostKnows (s .outer) u (main v) = subst (λ (x : ℕ). HostKnows (s .outer) u (main x)) e (o .sel (λ q. n (sym e ∙ q))) in
           host-knows g u (main v) .1 (knows-main g u v .1 (ap (λ (x : ℕ). has x u) (sym (w .same v p)) ∙ outer-only v u k))
 
-  old-list : (r u : ℕ) → r < length (b .resources) → has (oldList b c r) u ≡ has (resource b r .list) u
-  unfolding oldList
-  old-list r u l = ap (λ (z : Bool). has (cond z (resource b r .list) (resource c r .list)) u) (lt-ltb r (length (b .resources)) l)
-
   module _ (same : s .keys ≡ storeOf b .keys) (unspoilt : s .spoilt ≡ false) where
     row : (r : ℕ) → r < length (s .keys) → r < length (b .resources)
     row r l = omega (arith, ap (λ (ks : List ℕ). length ks) same, keys-count b)
@@ -340,7 +340,7 @@ module _ (b c : Book) (hb : sound b ≡ true) (hc : sound c ≡ true) (s : Store
     pub fine-safe : s .inner ≡ storeOf b .inner → Within (b .outer) (c .outer) → Fine b c s → Safe b c s
     fine-safe i w f =
         record {
-          opens-both = λ r l u x y. opens r (row r l) u (sym (old-list r u (row r l)) ∙ x) y (f r (row r l));
+          opens-both = λ r l u x y. opens r (row r l) u (sym (old-list b c r u (row r l)) ∙ x) y (f r (row r l));
           opens-only = λ r l u o. only r l u o (f r (row r l));
           unspoilt = unspoilt;
         }
@@ -350,14 +350,14 @@ module _ (b c : Book) (hb : sound b ≡ true) (hc : sound c ≡ true) (s : Store
         opens r l u x y (inr z) = sealed-both r l z u x y
 
         only : (r : ℕ) → r < length (s .keys) → (u : ℕ) → HostOpens s u r → Ward b c s r → (has (oldList b c r) u ≡ true) ⊎ (has (resource c r .list) u ≡ true)
-        only r l u o (inl e) = inl (old-list r u (row r l) ∙ old-only r (row r l) i w e u o)
+        only r l u o (inl e) = inl (old-list b c r u (row r l) ∙ old-only r (row r l) i w e u o)
         only r l u o (inr z) = inr (sealed-only r l z u o)
 
     -- where no lock changes: a join, and an insert before its end
     pub still-safe : ((r : ℕ) → r < length (b .resources) → (s .lock r ≡ resource b r .outer) × (s .lock r ≡ resource c r .outer)) → Safe b c s
     still-safe f =
         record {
-          opens-both = λ r l u x y. old-opens r (row r l) (f r (row r l) .0) u (sym (old-list r u (row r l)) ∙ x);
+          opens-both = λ r l u x y. old-opens r (row r l) (f r (row r l) .0) u (sym (old-list b c r u (row r l)) ∙ x);
           opens-only = λ r l u o. inr (new-only r l (f r (row r l) .1) u o);
           unspoilt = unspoilt;
         }
