@@ -4,17 +4,18 @@
 use Prim.Native.Nat.{ℕ}
 use mathlib.Core.Path.{refl}
 use mathlib.Core.Bool.{false}
-use mathlib.Core.List.{List, [], _∷_, _++_, map, flatMap}
+use mathlib.Core.List.{List, [], _∷_, _++_, map, flatMap, List·Memᴰ·head, List·Memᴰ·tail}
+use native.Mathlib.Omega.{arith}
 use lib.ListN.{length, take}
 use Rattle.sets.specs.Sets.{sizeIn, size}
 use Rattle.rules.specs.Lists.{every, some, keep, first, numbered, tabulateFrom, tabulate, upTo}
-use Rattle.rules.specs.Layer.{setOf, ofSize, bySize, takes, cover, vertexFor, found, withVertex}
+use Rattle.rules.specs.Layer.{setOf, token, ofSize, bySize, takes, cover, vertexFor, found, withVertex}
 use Rattle.rules.specs.Book.{Book, emptyLayer, emptyBook, resource, hasOuter, withInner, withOuter, withResources, withList, withLock}
 use Rattle.rules.specs.Holders.{into, sources, byToken, holders, holdersOf}
 use Rattle.rules.specs.Sound.{otherRow, lockedFor}
 use Rattle.rules.specs.Requests.{done, order, _then_, vertexOrders, innerVertex, outerVertex, relock, lock, unlock, lockList, agrees, withSet, join, encrypt, lockNew, insert, letIn, neighbours, grouped, lockAll, settle, toldLast, lockNear, grant, revoke}
 use Rattle.rules.specs.Refusals.{Request, grants, work}
-use Rattle.rules.specs.Host.{Graph, Store, hasKey, addKey, addToken, putInner, putOuter, putKeys, putLock, spoil, canObey, made, obeyed, obey, hasToken, isThere, again, obeyAgain, restarted, isJoin, nothingMade, emptyStore}
+use Rattle.rules.specs.Host.{Graph, Store, hasKey, addKey, addToken, putInner, putOuter, putKeys, putLock, spoil, canObey, made, obeyed, obey, hasToken, isThere, again, obeyAgain, restarted, isJoin, nothingMade, emptyStore, start, given, HostOpens}
 use Rattle.rules.specs.Numbers.{Right, bit, after, deltaRun, fullRun}
 use Rattle.rules.specs.declared.Order.{Order}
 
@@ -101,3 +102,25 @@ unfolding Right bit hosts hostRun deltaHost fullHost inNumbers spoils unobeyable
     done _then_ vertexOrders innerVertex outerVertex relock lock unlock lockList agrees withSet join encrypt lockNew insert
     letIn neighbours grouped lockAll settle toldLast lockNear grant revoke
 host-examples = (refl, (refl, (refl, (refl, (refl, (refl, (refl, (refl, (refl, (refl, (refl, (refl, tt))))))))))))
+
+-- ---- other orders of the orders let somebody in
+
+-- RULES 6.6 "if the token were published first, folder 1 would open for 2": after the token and the three orders before the lock
+pub token-first-opens : HostOpens (obey false (order 6 2 3 ∷ take 3 p3) before) 2 1
+unfolding hostRun before p3 after deltaRun work
+    hasKey addKey addToken putInner putOuter putKeys putLock canObey made obeyed obey isJoin nothingMade emptyStore
+    sizeIn size some keep first numbered tabulateFrom tabulate upTo setOf ofSize bySize takes cover vertexFor found withVertex
+    emptyLayer emptyBook resource hasOuter withInner withOuter withResources withList withLock into sources byToken holders holdersOf lockedFor
+    done _then_ vertexOrders innerVertex outerVertex relock lock unlock lockList agrees withSet join encrypt lockNew insert
+    letIn neighbours grouped lockAll settle toldLast lockNear grant
+token-first-opens = record { bel = given {t = token 2 3 1} (List·Memᴰ·tail (List·Memᴰ·tail (List·Memᴰ·head refl))) refl (start (omega arith)); sel = λ n. absurd (n refl) }
+
+-- RULES 12.6, H: a third folder for {0, 1}, encrypted before its lock, opens for 2
+pub encrypted-first-opens : HostOpens (obey false (order 7 2 3 ∷ []) (hostRun (take 6 deltaRun) (emptyBook 1) emptyStore)) 2 2
+unfolding hostRun before p3 after deltaRun work
+    hasKey addKey addToken putInner putOuter putKeys putLock canObey made obeyed obey isJoin nothingMade emptyStore
+    sizeIn size some keep first numbered tabulateFrom tabulate upTo setOf ofSize bySize takes cover vertexFor found withVertex
+    emptyLayer emptyBook resource hasOuter withInner withOuter withResources withList withLock into sources byToken holders holdersOf lockedFor
+    done _then_ vertexOrders innerVertex outerVertex relock lock unlock lockList agrees withSet join encrypt lockNew insert
+    letIn neighbours grouped lockAll settle toldLast lockNear grant
+encrypted-first-opens = record { bel = given {t = token 2 3 1} (List·Memᴰ·tail (List·Memᴰ·tail (List·Memᴰ·head refl))) refl (start (omega arith)); sel = λ n. absurd (n refl) }
