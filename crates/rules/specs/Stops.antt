@@ -1,18 +1,20 @@
 -- A host that stops in the middle of a request's orders: who opens what from what it has then. RULES 6.6.
 -- Assumes nothing.
-use Prim.Native.Nat.{ℕ, _<_}
+use Prim.Native.Nat.{ℕ, _-_, _*_, _<_}
 use mathlib.Core.Path.{_≡_}
 use mathlib.Core.Bool.{Bool, true, false, cond}
 use mathlib.Core.Logic.{_⊎_}
-use mathlib.Core.List.{List, []}
+use mathlib.Core.List.{List, [], _∷_}
 use lib.Dec.{eqb, ltb}
-use lib.ListN.{length, take}
+use lib.ListN.{length, getD, take, drop}
 use Rattle.sets.specs.Sets.{has}
 use Rattle.rules.specs.Book.{Book, resource}
 use Rattle.rules.specs.Refusals.{Request, joins, inserts, grants, revokes, work}
-use Rattle.rules.specs.Calls.{change, ordersIn}
+use Rattle.rules.specs.Bytes.{Tables, bookIn}
+use Rattle.rules.specs.Calls.{change, ordersIn, Asked, one}
 use Rattle.rules.specs.Runs.{Kept}
-use Rattle.rules.specs.Host.{Store, HostOpens, obey, isJoin}
+use Rattle.rules.specs.Host.{Store, HostOpens, obey, obeyOne, isJoin}
+use Rattle.rules.specs.declared.Head.{Head}
 use Rattle.rules.specs.declared.Order.{Order}
 use Rattle.rules.specs.declared.Changed.{Changed}
 use Rattle.rules.specs.declared.Changed.the-variants as changed
@@ -49,3 +51,23 @@ unfoldable pub ordersOf : Request → List ℕ → Kept → List Order
 ordersOf q list k =
     let c = change q (k .head) (k .tables) list in
     ordersGiven (c .answer) (c .orders)
+
+-- ---- several requests in one call (RULES 8.8)
+
+-- the first n rows of all that it gave, one request after the other: those in front whole, then the first rows of the next. An open's rows are no orders
+unfoldable pub obeySome : List Asked → List ℕ → List ℕ → ℕ → Store → Store
+obeySome [] answers list n s = s
+obeySome (q ∷ qs) answers list n s =
+    let m = getD answers 2 0 in
+    let here = obeyOne q n list s in
+    let on = obeySome qs (drop 3 answers) (drop (m * 3) list) (n - m) (obeyOne q m list s) in
+    cond (ltb n m) here on
+
+-- the books before and after the request that it stops in
+unfoldable pub booksAt : List Asked → Head → Tables → List ℕ → ℕ → Book × Book
+booksAt [] h t list n = (bookIn h t, bookIn h t)
+booksAt (q ∷ qs) h t list n =
+    let o = one q h t list in
+    let here : Book × Book = (bookIn h t, bookIn (o .head) (o .tables)) in
+    let on = booksAt qs (o .head) (o .tables) (drop (o .count * 3) (o .orders)) (n - o .count) in
+    cond (ltb n (o .count)) here on

@@ -66,7 +66,12 @@ module _ (q : Request) (h : Head) (t : Tables) (list : List ℕ) where
       go (some r) e = refl
       go none e = rows-obeyed (drop (0 + length (orderRows (d .orders))) list) e
 
-  -- on the rows cut from the list lent
+  -- the rows cut from the list lent are its orders
+  pub rows-cut : take (length (d .orders) * 3) (stored 0 (orderRows (d .orders)) list) ≡ orderRows (d .orders)
+  rows-cut =
+      ap (λ (n : ℕ). take n (stored 0 (orderRows (d .orders)) list)) (sym (length-orders (d .orders)))
+      ∙ stored-first (orderRows (d .orders)) list
+
   pub cut-obeyed : (rest : List ℕ)
       → obeyOne (changes q) (one (changes q) h t list .count) (take (one (changes q) h t list .count * 3) (one (changes q) h t list .orders) ++ rest) (storeOf b)
       ≡ storeOf (bookOf (keptOne (changes q) h t list))
@@ -76,16 +81,11 @@ module _ (q : Request) (h : Head) (t : Tables) (list : List ℕ) where
       o : Option Refusal → One
       o z = let c = changeBy z d t list in changeOne (c .answer) h (c .tables) (c .orders)
 
-      cut : take (length (d .orders) * 3) (stored 0 (orderRows (d .orders)) list) ≡ orderRows (d .orders)
-      cut =
-          ap (λ (n : ℕ). take n (stored 0 (orderRows (d .orders)) list)) (sym (length-orders (d .orders)))
-          ∙ stored-first (orderRows (d .orders)) list
-
       go : (z : Option Refusal) → refusal t b (rowsLent list) q ≡ z
           → obey (isJoin q) (ordersIn (o z .count) (take (o z .count * 3) (o z .orders) ++ rest)) (storeOf b) ≡ storeOf (bookOf (keep (o z .head) (o z .tables)))
       go (some r) e = refl
       go none e =
-          ap (λ (l : List ℕ). obey (isJoin q) (ordersIn (length (d .orders)) (l ++ rest)) (storeOf b)) cut
+          ap (λ (l : List ℕ). obey (isJoin q) (ordersIn (length (d .orders)) (l ++ rest)) (storeOf b)) rows-cut
           ∙ rows-obeyed rest e
 
 -- one of several requests, on the rows that it gave and whatever comes behind them
@@ -98,14 +98,14 @@ one-obeyed (opens u r) h t list rest = ap (λ (k : Kept). storeOf (bookOf k)) (s
 one-obeyed nothing h t list rest = refl
 
 -- its answer row: number, view, count
-abbrev Counted : One → Type 0
+abbrev pub Counted : One → Type 0
 Counted o = (n : ℕ) × (v : ℕ) × (o .row ≡ n ∷ v ∷ o .count ∷ [])
 
 refused-counted : (r : Refusal) (h : Head) (t : Tables) (list : List ℕ) → Counted (refusedOne r h t list)
 unfolding refusedOne
 refused-counted r h t list = (number r, viewTold r, refl)
 
-one-counted : (q : Asked) (h : Head) (t : Tables) (list : List ℕ) → Counted (one q h t list)
+pub one-counted : (q : Asked) (h : Head) (t : Tables) (list : List ℕ) → Counted (one q h t list)
 unfolding one changeOne openOne
 one-counted (changes q) h t list = go (change q h t list .answer)
   where
@@ -122,7 +122,7 @@ one-counted nothing h t list = refused-counted NoSuch h t list
 -- ---- several requests
 
 -- the rows of the first are cut off
-rest-behind : (q : Asked) (h : Head) (t : Tables) (list rest : List ℕ)
+pub rest-behind : (q : Asked) (h : Head) (t : Tables) (list rest : List ℕ)
     → drop (one q h t list .count * 3) (take (one q h t list .count * 3) (one q h t list .orders) ++ rest) ≡ rest
 rest-behind q h t list rest =
     let g = one-gives q h t list in

@@ -1,6 +1,6 @@
 -- The resources that a request's orders lock: each at most once. RULES 6.2.
 -- Assumes nothing.
-use Prim.Native.Nat.{ℕ, _<_}
+use Prim.Native.Nat.{ℕ}
 use mathlib.Core.Path.{_≡_, refl, sym, ap, ap₂, _∙_}
 use mathlib.Core.Bool.{Bool, true, false, _&&_, not, cond}
 use mathlib.Core.Logic.{_⊎_, inl, inr}

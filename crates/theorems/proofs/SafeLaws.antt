@@ -4,7 +4,7 @@
 use Prim.Native.Nat.{ℕ, zero, suc, _+_, _≤_, _<_}
 use mathlib.Core.Path.{_≡_, refl, sym, ap, _∙_, subst}
 use mathlib.Core.Bool.{Bool, true, false, not, cond}
-use mathlib.Core.Logic.{_⊎_, inl, inr, _↔_, _≢_}
+use mathlib.Core.Logic.{_⊎_, inl, inr, _≢_}
 use mathlib.Core.List.{List, [], _∷_, _++_, append-nil, append-assoc, List·Memᴰ, List·Memᴰ·not-nil, List·Memᴰ·eq-of-singleton, Memᴰ·append-left}
 use mathlib.Core.Option as option
 use native.Mathlib.Omega.{arith}
@@ -12,10 +12,10 @@ use lib.ListN.{length, getD, take, drop}
 use Rattle.sets.specs.Sets.{has, single, minus, within}
 use Rattle.sets.proofs.Laws.{both, has-within, has-minus}
 use Rattle.rules.specs.Layer.{Layer, token, vertexFor}
-use Rattle.rules.specs.Book.{Book, Resource, none, resource, withInner, withList, withResources}
+use Rattle.rules.specs.Book.{Book, none, resource, withInner, withList, withResources}
 use Rattle.rules.specs.Holders.{holdersOf}
 use Rattle.rules.specs.Sound.{sound}
-use Rattle.rules.specs.Requests.{Done, done, order, _then_, vertexOrders, innerVertex, lock, lockList, lockNew, lockAll, encrypt, letIn, neighbours, grouped, settle, toldLast, lockNear, join, insert, grant, revoke}
+use Rattle.rules.specs.Requests.{done, order, _then_, vertexOrders, innerVertex, lock, lockList, lockNew, lockAll, encrypt, letIn, neighbours, grouped, settle, toldLast, lockNear, join, insert, grant, revoke}
 use Rattle.rules.specs.Refusals.{Request, joins, inserts, grants, revokes, work, refusal}
 use Rattle.rules.specs.Runs.{Access, access, listed}
 use Rattle.rules.specs.Bytes.{Tables}
@@ -31,7 +31,7 @@ use Rattle.theorems.proofs.GroupLaws.{lockedBook, run-passed}
 use Rattle.theorems.proofs.SoundLaws.{sound-kept, sound-counts}
 use Rattle.theorems.proofs.AccessLaws.{list-at, list-access, letIn-access, work-access}
 use Rattle.theorems.proofs.RequestLaws.{Allowed, accepted, work-sound}
-use Rattle.theorems.proofs.HostLaws.{Each, Outer, inward, same-half, other-half, unspoilt-before, Told, kept-standing, each-none, each-one, each-both, each-take, vertex-each, lockNew-each, lock-outer, lockNear-outer, letIn-inner, withList-told, lockAll-told, letIn-told, obeyed-work, moved, lockAll-outer}
+use Rattle.theorems.proofs.HostLaws.{Each, Outer, inward, same-half, other-half, unspoilt-before, Told, kept-standing, each-one, each-both, each-take, vertex-each, lockNew-each, lock-outer, lockNear-outer, letIn-inner, withList-told, lockAll-told, letIn-told, obeyed-work, moved, lockAll-outer}
 use Rattle.theorems.proofs.GrowLaws.{lockOf, locksOf, Grows, stop-grows, obey-grows, rest-grows, obey-keys}
 use Rattle.theorems.proofs.OnceLaws.{locks-append, AtMost, insert-once}
 use Rattle.theorems.proofs.StopLaws.{Through, through-take, through-append, through-end, Within, within-self, within-still, lock-within, lockAll-within, settle-within, Fine, at, lock-through, run-through, settle-through, fine-safe, still-safe, end-safe}

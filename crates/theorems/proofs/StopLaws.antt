@@ -8,8 +8,8 @@ use mathlib.Core.List.{List, [], _∷_, _++_, List·Memᴰ, List·Memᴰ·head, 
 use native.Mathlib.Nat.{le-refl}
 use native.Mathlib.Omega.{arith}
 use native.Mathlib.Decide.{ℕ-discrete}
-use lib.Dec.{eqb, ltb}
-use lib.ListN.{length, getD, set, take, length-set}
+use lib.Dec.{eqb}
+use lib.ListN.{length, getD, set, take}
 use lib.Seq.{getD-set-same, getD-set-other}
 use borrow.Author.Tests.{eqb-true, eqb-false, not-true, lt-ltb}
 use Rattle.sets.specs.Sets.{has}
@@ -19,7 +19,7 @@ use Rattle.rules.specs.Book.{Book, Resource, none, resource, hasOuter, withOute
 use Rattle.rules.specs.Derivation.{main, access}
 use Rattle.rules.specs.Sound.{sound, lockedFor}
 use Rattle.rules.specs.Requests.{Done, done, order, _then_, vertexOrders, outerVertex, relock, lock, unlock, lockList, lockAll, agrees, settle}
-use Rattle.rules.specs.Host.{Store, obeyed, obey, storeOf, graphOf, HostKnows, HostOpens}
+use Rattle.rules.specs.Host.{Store, obeyed, obey, storeOf, HostKnows, HostOpens}
 use Rattle.rules.specs.Stops.{oldList, Safe}
 use Rattle.rules.specs.declared.Order.{Order}
 use Rattle.theorems.proofs.LockLaws.{Place, Kept, Relocked, lock-laws}
@@ -29,7 +29,7 @@ use Rattle.theorems.proofs.NeighbourLaws.{Apart, apart-lock, apart-next
 use Rattle.theorems.proofs.GroupLaws.{withVertex-set}
 use Rattle.theorems.proofs.KnowsLaws.{knows-main}
 use Rattle.theorems.proofs.SoundLaws.{sound-kept}
-use Rattle.theorems.proofs.HostLaws.{Each, Outer, inward, moved, obey-append, Standing, vertex-longer, vertex-each, lock-outer, lockAll-outer, relock-told, lock-told, lockAll-told, each-one}
+use Rattle.theorems.proofs.HostLaws.{Each, Outer, inward, moved, obey-append, Standing, vertex-longer, vertex-each, lock-outer, relock-told, lock-told, each-one}
 use Rattle.theorems.proofs.GrowLaws.{longer-at, no-lock, Extends, Grows, obeyed-grows, obey-grows, knows-more}
 use Rattle.theorems.proofs.HostOpensLaws.{host-knows, host-opens, keys-count}
 

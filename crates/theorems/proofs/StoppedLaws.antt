@@ -1,28 +1,29 @@
 -- A host that stops in the orders of the last call of a run, and goes on: RULES 6.6 "after any run of calls whose orders were all obeyed, with a last request
 -- obeyed up to any k", and 6.7. On the rows that the call gave, whether it was accepted or refused.
 -- Assumes nothing.
-use Prim.Native.Nat.{ℕ, zero, suc, _+_, _≤_, _<_, max}
+use Prim.Native.Nat.{ℕ, zero, suc, _+_, _-_, _*_, _≤_, _<_}
 use mathlib.Core.Path.{_≡_, refl, sym, ap, _∙_, subst}
-use mathlib.Core.Bool.{Bool, true, false}
+use mathlib.Core.Bool.{Bool, true, false, cond}
 use mathlib.Core.Logic.{_⊎_, inl, inr, _↔_}
 use mathlib.Core.List.{List, [], _∷_, _++_}
 use mathlib.Core.Option.{Option, some, none}
 use native.Mathlib.Omega.{arith}
-use lib.Dec.{eqb}
+use lib.Dec.{eqb, ltb}
 use lib.ListN.{length, getD, set, take, drop, length-append, length-set, List·getD-append}
 use lib.Seq.{take-nil, getD-set-other}
-use borrow.Author.Tests.{eqb-false}
+use borrow.Author.Tests.{eqb-false, ltb-true}
 use Rattle.sets.specs.Sets.{has, single, union, minus}
-use Rattle.rows.specs.Number.{stored}
+use Rattle.rows.specs.Number.{stored, rowsOf}
 use Rattle.rules.specs.Lists.{every}
 use Rattle.rules.specs.Book.{Book, resource}
 use Rattle.rules.specs.Sound.{sound}
-use Rattle.rules.specs.Bytes.{Tables, bookIn, headOf, laid}
+use Rattle.rules.specs.Bytes.{Tables, bookIn}
 use Rattle.rules.specs.Refusals.{Request, joins, inserts, grants, revokes, work, refusal}
-use Rattle.rules.specs.Calls.{orderRows, rowsLent, Change, change, changeBy}
+use Rattle.rules.specs.Calls.{orderRows, orderOf, ordersIn, rowsLent, Change, change, changeBy, Asked, changes, opens, nothing, One, one, changeOne, refusedOne, All, all, askedIn, serveCall, serveBy, refusalServe}
 use Rattle.rules.specs.Runs.{Kept, keep, bookOf, Call, to-change, headChanged, after, run, Access, access, listed}
-use Rattle.rules.specs.Host.{Store, obey, obeyAgain, restarted, most, isJoin, storeOf, HostOpens, obeyRun, notRead}
-use Rattle.rules.specs.Stops.{oldList, Safe, stopped, names, ordersGiven, ordersOf}
+use Rattle.rules.specs.Host.{Store, obey, obeyAgain, restarted, most, isJoin, storeOf, HostOpens, obeyOne, obeyRun, notRead}
+use Rattle.rules.specs.Requests.{Done}
+use Rattle.rules.specs.Stops.{oldList, Safe, stopped, names, ordersGiven, ordersOf, obeySome, booksAt}
 use Rattle.rules.specs.declared.Head.{Head}
 use Rattle.rules.specs.declared.Order.{Order}
 use Rattle.rules.specs.declared.Refusal.{Refusal}
@@ -30,9 +31,12 @@ use Rattle.theorems.proofs.AccessLaws.{list-at, list-count, work-access
 use Rattle.theorems.proofs.RequestLaws.{accepted, work-sound}
 use Rattle.theorems.proofs.ByteLaws.{sound-book-laid}
 use Rattle.theorems.proofs.RunLaws.{run-sound}
+use Rattle.theorems.proofs.ServeLaws as serve
+use Rattle.theorems.proofs.ServeLaws.{one-run}
 use Rattle.theorems.proofs.HostLaws.{obeyed-work}
 use Rattle.theorems.proofs.GrowLaws.{longer-at, rest-grows}
-use Rattle.theorems.proofs.HostCallLaws.{orders-read, obeyed-calls}
+use Rattle.theorems.proofs.CallLaws.{keptOne, one-open}
+use Rattle.theorems.proofs.HostCallLaws.{orders-read, rows-cut, one-obeyed, Counted, one-counted, rest-behind, obeyed-calls}
 use Rattle.theorems.proofs.HostOpensLaws.{host-opens, keys-count}
 use Rattle.theorems.proofs.StopLaws.{old-list, end-safe}
 use Rattle.theorems.proofs.SafeLaws.{safe-at-every-stop}
@@ -205,3 +209,104 @@ module _ (cs : List Call) (k : Kept) (e : every notRead cs ≡ true) (sane : sou
       go : Cases → length os ≤ most ns → restarted (isJoin q) os ns has-then ≡ storeOf leaves
       go (inl (p, l)) = rw (p, l) (λ m. restarted-none (isJoin q) ns has-then ∙ in-step)
       go (inr (a, p, l)) = rw (p, l, in-step) (finishes (kept .tables) (bookOf kept) (rowsLent list) q a ns)
+
+-- ---- several requests in one call: a stop anywhere in their rows
+
+-- the first of some rows
+rows-part : {A : Type 0} (w : ℕ) (f : List ℕ → A) (n m : ℕ) (rows : List ℕ) → n ≤ m → rowsOf w f n rows ≡ take n (rowsOf w f m rows)
+unfolding rowsOf
+rows-part w f zero m rows l = refl
+rows-part w f (suc n) zero rows l = absurd (omega arith)
+rows-part w f (suc n) (suc m) rows l = ap (λ (xs : _). f (take w rows) ∷ xs) (rows-part w f n m (drop w rows) (omega arith))
+
+-- a stop in the rows of one of them, whatever comes behind these
+one-stop-safe : (q : Asked) (h : Head) (t : Tables) (list rest : List ℕ) (n : ℕ) → sound (bookIn h t) ≡ true → n < one q h t list .count
+    → Safe (bookIn h t) (bookOf (keptOne q h t list)) (obeyOne q n (take (one q h t list .count * 3) (one q h t list .orders) ++ rest) (storeOf (bookIn h t)))
+unfolding obeyOne bookOf stopped ordersIn one refusedOne change changeBy changeOne
+one-stop-safe (opens u r) h t list rest n s l =
+    subst (λ (k : Kept). Safe (bookIn h t) (bookOf k) (storeOf (bookIn h t))) (sym (one-open u r h t list)) (end-safe (bookIn h t) (bookIn h t) s)
+one-stop-safe nothing h t list rest n s l = absurd (omega arith)
+one-stop-safe (changes q) h t list rest n s l = go (refusal t b (rowsLent list) q) refl l
+  where
+    b : Book
+    b = bookIn h t
+
+    d : Done
+    d = work q b
+
+    o : Option Refusal → One
+    o z = let c = changeBy z d t list in changeOne (c .answer) h (c .tables) (c .orders)
+
+    go : (z : Option Refusal) → refusal t b (rowsLent list) q ≡ z → n < o z .count
+        → Safe b (bookIn (o z .head) (o z .tables)) (obey (isJoin q) (ordersIn n (take (o z .count * 3) (o z .orders) ++ rest)) (storeOf b))
+    go (some r) e l = absurd (omega arith)
+    go none e l =
+        rw (
+          sound-book-laid (d .book) t (work-sound t b (rowsLent list) q e),
+          rows-cut q h t list,
+          rows-part 3 orderOf n (length (d .orders)) (orderRows (d .orders) ++ rest) (omega arith),
+          orders-read (d .orders) rest,
+        )
+        (safe-at-every-stop t b (rowsLent list) q e n)
+
+-- a request among several keeps a sound book
+one-sound : (q : Asked) (h : Head) (t : Tables) (list : List ℕ) → sound (bookIn h t) ≡ true → sound (bookOf (keptOne q h t list)) ≡ true
+unfolding bookOf
+one-sound q h t list s = subst (λ (k : Kept). sound (bookOf k) ≡ true) (sym (one-run q h t list)) (run-sound (serve.single q list) (keep h t) s)
+
+pub some-stop-safe : (qs : List Asked) (h : Head) (t : Tables) (list behind : List ℕ) (n : ℕ) → sound (bookIn h t) ≡ true
+    → let bs = booksAt qs h t list n in
+    Safe (bs .0) (bs .1) (obeySome qs (all qs h t list .answers ++ behind) (all qs h t list .orders) n (storeOf (bookIn h t)))
+unfolding booksAt obeySome all bookOf
+some-stop-safe [] h t list behind n s = end-safe (bookIn h t) (bookIn h t) s
+some-stop-safe (q ∷ qs) h t list behind n s =
+    go (one-counted q h t list)
+    (some-stop-safe qs (one q h t list .head) (one q h t list .tables) (drop (one q h t list .count * 3) (one q h t list .orders)) behind (n - one q h t list .count)
+    (one-sound q h t list s))
+  where
+    o : One
+    o = one q h t list
+
+    a : All
+    a = all qs (o .head) (o .tables) (drop (o .count * 3) (o .orders))
+
+    rows : List ℕ
+    rows = take (o .count * 3) (o .orders) ++ a .orders
+
+    on : Book × Book
+    on = booksAt qs (o .head) (o .tables) (drop (o .count * 3) (o .orders)) (n - o .count)
+
+    b : Book
+    b = bookIn h t
+
+    left : Store
+    left = storeOf (bookOf (keptOne q h t list))
+
+    -- in this request's rows, or behind them
+    at : (z : Bool) → ltb n (o .count) ≡ z → Safe (on .0) (on .1) (obeySome qs (a .answers ++ behind) (a .orders) (n - o .count) left)
+        → let bs : Book × Book = cond z (b, bookIn (o .head) (o .tables)) on in
+        Safe (bs .0) (bs .1) (cond z (obeyOne q n rows (storeOf b)) (obeySome qs (a .answers ++ behind) (drop (o .count * 3) rows) (n - o .count) (obeyOne q (o .count) rows (storeOf b))))
+    at true e r = one-stop-safe q h t list (a .orders) n s (ltb-true n (o .count) e)
+    at false e r =
+        subst (λ (l : List ℕ). Safe (on .0) (on .1) (obeySome qs (a .answers ++ behind) l (n - o .count) (obeyOne q (o .count) rows (storeOf b))))
+        (sym (rest-behind q h t list (a .orders)))
+        (subst (λ (x : Store). Safe (on .0) (on .1) (obeySome qs (a .answers ++ behind) (a .orders) (n - o .count) x)) (sym (one-obeyed q h t list (a .orders))) r)
+
+    go : Counted o → Safe (on .0) (on .1) (obeySome qs (a .answers ++ behind) (a .orders) (n - o .count) left)
+        → let bs : Book × Book = cond (ltb n (o .count)) (b, bookIn (o .head) (o .tables)) on in
+        Safe (bs .0) (bs .1) (obeySome (q ∷ qs) ((o .row ++ a .answers) ++ behind) rows n (storeOf b))
+    go (m, v, e) r = rw e (at (ltb n (o .count)) refl r)
+
+-- after any run of calls but reads, with a last call of several requests that is not refused as a whole
+pub run-serve-stop-safe : (cs : List Call) (k : Kept) → every notRead cs ≡ true → sound (bookOf k) ≡ true → (requests answers list : List ℕ) (n : ℕ)
+    → let now = run cs k in
+    let c = serveCall requests (now .head) (now .tables) answers list in
+    let bs = booksAt (askedIn requests) (now .head) (now .tables) list n in
+    refusalServe (now .tables) (bookOf now) requests answers ≡ none → Safe (bs .0) (bs .1) (obeySome (askedIn requests) (c .answers) (c .orders) n (obeyRun cs k (storeOf (bookOf k))))
+unfolding serveCall serveBy stored bookOf
+run-serve-stop-safe cs k e sane requests answers list n h =
+    rw (h, obeyed-calls cs k e)
+    (some-stop-safe (askedIn requests) (run cs k .head) (run cs k .tables) list (drop (0 + length (a .answers)) answers) n (run-sound cs k sane))
+  where
+    a : All
+    a = all (askedIn requests) (run cs k .head) (run cs k .tables) list
