@@ -264,10 +264,6 @@ pub works-length : {d : Done} {h : Head} {t u : Tables} {list l' : List ℕ} {at
 works-length {d} {list = list} {at = at} room p =
     ap length (p .orders) ∙ length-stored (at * 3) (orderRows (d .orders)) list (omega (arith, length-orders (d .orders)))
 
-pub lock-orders : (r s : ℕ) (b : Book) → length (lockWith r s b .orders) ≡ length (vertexOrders 1 2 (b .outer) s) + 1
-unfolding _then_ outerVertex relock done
-lock-orders r s b = length-append (vertexOrders 1 2 (b .outer) s) (order 3 r (vertexFor (b .outer) s) ∷ [])
-
 -- ---- find or make the outer vertex for s, and re-lock r with it; l and k are the layer's shape and the head afterwards as the code has them
 
 module _ {h : Head} {ov ot rs list : List ℕ} (r s at : ℕ) {l : Shape} (room : LockRoom h ov ot rs list r s at) (shape : l ≡ outerShape h) where
