@@ -2,16 +2,19 @@
 -- Assumes nothing.
 use Prim.Native.Nat.{ℕ, _+_, _*_, _-_, _≤_, _<_}
 use mathlib.Core.Path.{_≡_, refl, sym, ap, _∙_, subst}
+use mathlib.Core.Bool.{Bool, true, false}
+use mathlib.Core.Logic.{_≢_}
 use mathlib.Core.List.{List, [], _∷_, _++_, append-assoc}
 use native.Mathlib.Nat.{mul-le-mul-right, add-sub-of-le, add-zero, zero-add, zero-mul}
 use native.Mathlib.Omega.{arith}
 use lib.ListN.{length, take, drop, getD, length-append, take-append-drop}
 use lib.Seq.{drop-drop, length-take-le}
+use borrow.Author.Tests.{eq-eqb, ne-eqb}
 use Rattle.sets.specs.Words.{bytes}
 use Rattle.rows.specs.Number.{stored, joined}
 use Rattle.rows.proofs.Laws.{stored-add, stored-none, length-stored}
 use Rattle.rules.specs.Layer.{Layer, vertexFor, withVertex}
-use Rattle.rules.specs.Book.{Book, Resource, resource, withResources, withList, withLock}
+use Rattle.rules.specs.Book.{Book, Resource, none, resource, withResources, withList, withLock}
 use Rattle.rules.specs.Book as book
 use Rattle.rules.specs.Requests.{Done, done, order, _then_, vertexOrders, outerVertex, innerVertex, relock, encrypt}
 use Rattle.rules.specs.Bytes.{Tables, tables, bookIn, headOf, laid, Room, resourcesIn}
@@ -20,6 +23,7 @@ use Rattle.rules.specs.Calls.{change, changeBy, changing, rowsLent, orderRow, o
 use Rattle.rules.specs.declared.Head.{Head}
 use Rattle.rules.specs.declared.Order.{Order}
 use Rattle.rules.specs.declared.Changed.the-variants.{Done as Did}
+use Rattle.theorems.specs.Plan.{lockWith, unlockBy, settleBy}
 use Rattle.theorems.proofs.CountLaws.{newVertices-one, withVertex-vertices, withVertex-tokens}
 use Rattle.theorems.proofs.ByteLaws.{TableBytes, head-in, sections-in, sound-room}
 use Rattle.theorems.proofs.RequestLaws.{accepted-long, work-sound}
@@ -29,10 +33,10 @@ use Rattle.layer.specs.Cover.{orderOf}
 use Rattle.layer.specs.Make.{Fits, VertexFor}
 use Rattle.layer.specs.declared.walk.Shape.{Shape}
 use Rattle.layer.specs.declared.make.Made.{Made}
-use Rattle.layer.proofs.Read.{length-resources, layer-sets, layer-tokens}
+use Rattle.layer.proofs.Read.{layer-sets, layer-tokens}
 use Rattle.write.specs.Write.{Resources, ResourceAdded, listed, locked}
 use Rattle.apply.specs.Step.{withInner, withOuter}
-use Rattle.apply.specs.Apply.{Grown, Past, Rest, Works, lockWith, LockRoom, Accepted, applied}
+use Rattle.apply.specs.Apply.{Grown, Past, Rest, Works, LockRoom, Accepted, applied}
 use Rattle.apply.specs.declared.step.Step.{Step}
 use Rattle.apply.specs.declared.Applied.{Applied}
 
@@ -110,6 +114,17 @@ pub works-next : {d : Done} (f : Book → Done) {h : Head} {t u w : Tables} {lis
     → Works d h t list at s u l1 → Works (f (bookIn (s .head) u)) (s .head) u l1 (s .at) z w l2 → Works (d then f) h t list at z w l2
 works-next f {h} {t} {u} {w} {list} {l1} {l2} {at} {s} {z} room p q =
     works-then f room p (subst (λ (b : Book). Works (f b) (s .head) u l1 (s .at) z w l2) (p .book) q)
+
+pub then-orders : (d : Done) (f : Book → Done) → length ((d then f) .orders) ≡ length (d .orders) + length (f (d .book) .orders)
+unfolding _then_
+then-orders d f = length-append (d .orders) (f (d .book) .orders)
+
+-- a piece of work that the code names in its own terms
+pub works-on : {d e : Done} (f : Book → Done) {h : Head} {t u w : Tables} {list l1 l2 : List ℕ} {at : ℕ} {s z : Step} → (at + length ((d then f) .orders)) * 3 ≤ length list
+    → Works d h t list at s u l1 → e ≡ f (d .book) → Works e (s .head) u l1 (s .at) z w l2 → Works (d then f) h t list at z w l2
+works-on {d} {e} f {h} {t} {u} {w} {list} {l1} {l2} {at} {s} {z} room p same q =
+    works-then f (omega (arith, p .next, q .next, ap (λ (x : Done). length (x .orders)) same, then-orders d f)) p
+    (subst (λ (x : Done). Works x (s .head) u l1 (s .at) z w l2) same q)
 
 -- ---- the pieces: rows of resources, and a vertex
 
@@ -222,29 +237,32 @@ counting h n =
       «outer_tokens» = h .«outer_tokens»;
     }
 
--- a new resource with list l and inner vertex v
-pub works-encrypt : (h : Head) (iv it ov ot rs rs' list l' : List ℕ) (at l v : ℕ) → ResourceAdded (h .resources .0) l v rs rs'
-    → l' ≡ stored (at * 3) (orderOf 7 (h .resources .0) v) list
+-- a new resource with list l and inner vertex v; its order is not told yet
+pub works-row : (h : Head) (iv it ov ot rs rs' list : List ℕ) (at l v : ℕ) → ResourceAdded (h .resources .0) l v rs rs'
     → let t = tables iv it ov ot rs in
-    Works (encrypt l v (bookIn h t)) h t list at (step (counting h (h .resources .0 + 1)) (at + 1)) (tables iv it ov ot rs') l'
-unfolding encrypt done withResources bookIn orderRows orderRow joined
-works-encrypt h iv it ov ot rs rs' list l' at l v p o =
+    Works (done (encrypt l v (bookIn h t) .book) []) h t list at (step (counting h (h .resources .0 + 1)) at) (tables iv it ov ot rs') list
+unfolding encrypt done withResources bookIn orderRows joined
+works-row h iv it ov ot rs rs' list at l v p =
     record {
       book = ap (withResources (bookIn h (tables iv it ov ot rs))) (p .rows);
       grown = record { innerVertices = omega arith; innerTokens = omega arith; outerVertices = omega arith; outerTokens = omega arith; resources = omega arith };
       past = rest past-none past-none past-none past-none (record { rest = p .rest; same = p .same });
-      orders = rw (length-resources (h .resources .0) rs) o;
-      next = refl;
+      orders = sym (stored-none (at * 3) list);
+      next = omega arith;
     }
 
--- the list keeps its length
-pub works-length : {d : Done} {h : Head} {t u : Tables} {list l' : List ℕ} {at : ℕ} {s : Step} → (s .at) * 3 ≤ length list → Works d h t list at s u l' → length l' ≡ length list
-works-length {d} {list = list} {at = at} room p =
-    ap length (p .orders) ∙ length-stored (at * 3) (orderRows (d .orders)) list (omega (arith, p .next, length-orders (d .orders)))
+-- an order, and nothing else
+pub works-told : (h : Head) (t : Tables) (list l' : List ℕ) (at k x y : ℕ) → l' ≡ stored (at * 3) (orderOf k x y) list
+    → Works (done (bookIn h t) (order k x y ∷ [])) h t list at (step h (at + 1)) t l'
+unfolding done orderRows orderRow joined
+works-told h t list l' at k x y e =
+    record { book = refl; grown = grown-none h; past = rest past-none past-none past-none past-none past-none; orders = e; next = refl }
 
-pub lock-orders : (r s : ℕ) (b : Book) → length (lockWith r s b .orders) ≡ length (vertexOrders 1 2 (b .outer) s) + 1
-unfolding _then_ outerVertex relock done
-lock-orders r s b = length-append (vertexOrders 1 2 (b .outer) s) (order 3 r (vertexFor (b .outer) s) ∷ [])
+-- the list keeps its length
+pub works-length : {d : Done} {h : Head} {t u : Tables} {list l' : List ℕ} {at : ℕ} {s : Step} → (at + length (d .orders)) * 3 ≤ length list
+    → Works d h t list at s u l' → length l' ≡ length list
+works-length {d} {list = list} {at = at} room p =
+    ap length (p .orders) ∙ length-stored (at * 3) (orderRows (d .orders)) list (omega (arith, length-orders (d .orders)))
 
 -- ---- find or make the outer vertex for s, and re-lock r with it; l and k are the layer's shape and the head afterwards as the code has them
 
@@ -276,6 +294,28 @@ module _ {h : Head} {ov ot rs list : List ℕ} (r s at : ℕ) {l : Shape} (room 
         let one = works-outer h iv it ov ot rs ov' ot' list l1 at s m vertex-made in
         let two = works-relock (withOuter h (m .shape)) iv it ov' ot' rs rs' l1 l2 (m .at) r v q o in
         rw (e, ← for) (works-next (relock r v) (lock-room .0) one two)
+
+-- ---- the lock of r, which had outer vertex v: taken off, or one for its list l
+
+module _ {h : Head} {iv it ov ot rs list : List ℕ} {at : ℕ} (r v : ℕ) where
+  pub unlock-none : v ≡ none → Works (unlockBy r v (bookIn h (tables iv it ov ot rs))) h (tables iv it ov ot rs) list at (step h at) (tables iv it ov ot rs) list
+  unfolding unlockBy
+  unlock-none e = rw (eq-eqb v none e) works-none
+
+  pub unlock-relocked : {rs' l' : List ℕ} → v ≢ none → Resources (h .resources .0) (locked r none (resourcesIn (h .resources .0) rs)) rs rs'
+      → l' ≡ stored (at * 3) (orderOf 3 r none) list
+      → Works (unlockBy r v (bookIn h (tables iv it ov ot rs))) h (tables iv it ov ot rs) list at (step h (at + 1)) (tables iv it ov ot rs') l'
+  unfolding unlockBy
+  unlock-relocked {rs'} {l'} n p o = rw (ne-eqb v none n) (works-relock h iv it ov ot rs rs' list l' at r none p o)
+
+module _ (b : Book) {h : Head} {t u : Tables} {list l' : List ℕ} {at : ℕ} (r v l : ℕ) {s : Step} {free : Bool} where
+  pub settle-free : free ≡ true → Works (unlockBy r v b) h t list at s u l' → Works (settleBy free r v l b) h t list at s u l'
+  unfolding settleBy
+  settle-free e w = rw e w
+
+  pub settle-lock : free ≡ false → Works (lockWith r l b) h t list at s u l' → Works (settleBy free r v l b) h t list at s u l'
+  unfolding settleBy
+  settle-lock e w = rw e w
 
 -- ---- from the work of a request to its call's change
 

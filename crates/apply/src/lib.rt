@@ -1,7 +1,9 @@
-// Applying a request that no refusal stops: the rows and the orders, in the order that the work is described.
+// Applying a request that no refusal stops: the rows and the orders, in the order that the orders are given.
 // The five tables are iv, it, ov, ot, rs: inner vertices and tokens, outer vertices and tokens, resources.
 use crate::grant::apply_grant;
+use crate::step::Step;
 use crate::step::lock_with;
+use crate::step::settle;
 use crate::step::with_inner;
 use layer::cover::put_order;
 use layer::make::vertex_for;
@@ -14,6 +16,7 @@ use rules::Head;
 use rules::InnerVertex;
 use rules::InnerVertices;
 use rules::Joined;
+use rules::OuterVertex;
 use rules::OuterVertices;
 use rules::Resource;
 use rules::Resources;
@@ -67,6 +70,7 @@ pub fn apply_join(
     Applied { head, count: 2 }
 }
 
+// The vertex, the row, and its lock, which may be none; the order for the row comes last.
 pub fn apply_insert(
     h: Head,
     iv: &mut [u8],
@@ -84,21 +88,18 @@ pub fn apply_insert(
 {
     let m = vertex_for(iv, it, inner_shape(h), l, orders, 0, 4, 5);
     let n = h.resources.0;
-    add_resource(rs, n as usize, l, InnerVertex(m.vertex), orders, m.at);
+    add_resource(rs, n as usize, l, InnerVertex(m.vertex));
     let mut head = with_inner(h, m.shape);
     let resources = Resources(n + 1);
     head.resources = resources;
-    if p.free {
-        return Applied {
-            head,
-            count: (m.at + 1) as u16,
-        };
-    }
-    let a = lock_with(head, ov, ot, rs, orders, m.at + 1, Resource(n), l);
-    let after = a.head;
+    let a = Step { head, at: m.at };
+    let none = OuterVertex(OuterVertex::NONE);
+    let b = settle(a, ov, ot, rs, orders, Resource(n), none, l, p.free);
+    put_order(orders, b.at, 7, n, m.vertex);
+    let after = b.head;
     Applied {
         head: after,
-        count: a.at as u16,
+        count: (b.at + 1) as u16,
     }
 }
 

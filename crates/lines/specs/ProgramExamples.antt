@@ -1,4 +1,4 @@
--- The request program run from its definition: the sample of RULES 10.9, and both sides of the clauses about lines. A row: what the program prints, and what
+-- The request program run from its definition: the sample of RULES 10.9, P9 and P10, and both sides of the clauses about lines. A row: what the program prints, and what
 -- it should.
 -- Assumes nothing.
 use Prim.Native.Nat.{ℕ, _+_}
@@ -12,7 +12,7 @@ use Rattle.rules.specs.Layer.{setOf, ofSize, bySize, takes, cover, vertexFor, f
 use Rattle.rules.specs.Book.{emptyLayer, emptyBook, resource, hasOuter, withInner, withOuter, withResources, withList, withLock}
 use Rattle.rules.specs.Holders.{into, sources, byToken, holders, holdersOf, innerKnown, outerKnown, view}
 use Rattle.rules.specs.Sound.{lockedFor}
-use Rattle.rules.specs.Requests.{done, _then_, vertexOrders, innerVertex, outerVertex, relock, lock, unlock, lockList, agrees, withSet, join, encrypt, lockNew, insert, letIn, neighbours, grouped, lockAll, settle, grant, revoke}
+use Rattle.rules.specs.Requests.{done, _then_, toldLast, vertexOrders, innerVertex, outerVertex, relock, lock, unlock, lockList, agrees, withSet, join, encrypt, lockNew, insert, letIn, neighbours, grouped, lockAll, settle, lockNear, grant, revoke}
 use Rattle.rules.specs.Open.{tokenAt, back, walk, chain, innerChain, outerChain}
 use Rattle.rules.specs.Refusals.{verdict, noSuch, work, own, limits, opened}
 use Rattle.rules.specs.Calls.{orderRow, orderRows, chainRows, asked}
@@ -37,7 +37,8 @@ inputs = (
     ∷ (prints "join\njoin\n", bytes "no 14\n")
     ∷ (prints "delta", [])
     ∷ (prints "delta\n", [])
-    ∷ (prints "full\njoin\ninsert 0", bytes "ok 2\n4 0 0\n1 0 0\nok 2\n7 0 0\n3 0 0\n")
+    ∷ (prints "full\njoin\ninsert 0", bytes "ok 2\n4 0 0\n1 0 0\nok 2\n3 0 0\n7 0 0\n")
+    ∷ (prints "full\njoin\njoin\ninsert 0\ngrant 0 1", bytes "ok 2\n4 0 0\n1 0 0\nok 2\n4 1 0\n1 1 0\nok 2\n3 0 0\n7 0 0\nok 5\n1 2 0\n2 0 2\n2 1 2\n3 0 2\n6 1 0\n")
     ∷ (prints "delta\n\n", bytes "no 14\n")
     ∷ (prints "delta\n\njoin \ninsert 0 0\ndelta\njoin", bytes "no 14\nno 14\nno 14\nno 14\nok 2\n4 0 0\n1 0 0\n")
     ∷ (prints "delta\ninsert\ninsert 64\ninsert 0\ngrant 0 0\nrevoke 0 99999", bytes "no 4\nno 1\nno 1\nno 1\nno 1\n")
@@ -53,10 +54,10 @@ unfolding Right inputs prints long orderRow orderRows chainRows asked joined
     setOf ofSize bySize takes cover vertexFor found withVertex
     emptyLayer emptyBook resource hasOuter withInner withOuter withResources withList withLock
     into sources byToken holders holdersOf innerKnown outerKnown view lockedFor
-    done _then_ vertexOrders innerVertex outerVertex relock lock unlock lockList agrees withSet join encrypt lockNew insert
-    letIn neighbours grouped lockAll settle grant revoke
+    done _then_ toldLast vertexOrders innerVertex outerVertex relock lock unlock lockList agrees withSet join encrypt lockNew insert
+    letIn neighbours grouped lockAll settle lockNear grant revoke
     tokenAt back walk chain innerChain outerChain verdict noSuch work own limits opened
     same digit shaped isNumber valueFrom value longer pieces words kindOf twice users above joinOf insertOf pairOf rowOf asksFor requestOf lineAsks modes modeOf firstLine
     digitsIn digits numeral ofOpen rowText rowsText okText noText answerText
     linesIn closed refused changeTold openTold answerTo no14 lineTold answers started answered program
-program-examples = (refl, (refl, (refl, (refl, (refl, (refl, (refl, (refl, (refl, (refl, (refl, (refl, (refl, (refl, tt))))))))))))))
+program-examples = (refl, (refl, (refl, (refl, (refl, (refl, (refl, (refl, (refl, (refl, (refl, (refl, (refl, (refl, (refl, tt)))))))))))))))
