@@ -27,9 +27,9 @@ use Rattle.rules.specs.declared.Loaded.the-variants as loaded
 use Rattle.rules.specs.declared.Stored.{Stored}
 use Rattle.rules.specs.declared.Stored.the-variants as written
 
--- which version of the interface answers: major * 10000 + minor * 100 + patch, here 2.0.0
+-- which version of the interface answers: major * 10000 + minor * 100 + patch, here 3.0.0
 abbrev pub version : ℕ
-version = 20000
+version = 30000
 
 -- a head is 7 numbers
 abbrev pub headLength : ℕ

@@ -26,7 +26,7 @@ ghost use Rattle.rules.specs.Bytes.{tables};
 ghost use Rattle.host.specs.Answers.{version, headLength, headFrom, headNumbers, checkAnswer, sectionAnswer, readAnswer, writeAnswer, answered, loadedAs, writtenAs};
 
 // Major * 10000 + minor * 100 + patch.
-pub const VERSION: u32 = 20000;
+pub const VERSION: u32 = 30000;
 
 // The numbers of a head.
 pub const HEAD: usize = 7;
