@@ -1,5 +1,5 @@
--- A host that stops in the orders of the last call of a run, and goes on: RULES 6.6 "after any run of calls whose orders were all obeyed, with a last request
--- obeyed up to any k", and 6.7. On the rows that the call gave, whether it was accepted or refused.
+-- A host that stops in the orders of the last call of a run, and goes on: RULES 6.6 "after any run of calls whose orders were all obeyed", and 6.7. On the
+-- rows that the call gave, whether it was accepted or refused, by itself or one of several.
 -- Assumes nothing.
 use Prim.Native.Nat.{ℕ, zero, suc, _+_, _-_, _*_, _≤_, _<_}
 use mathlib.Core.Path.{_≡_, refl, sym, ap, _∙_, subst}
