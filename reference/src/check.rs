@@ -1,7 +1,7 @@
 //! Random runs that verify every step.
 //!
 //! A [`World`] is a book, the same book in lent tables, and a host that only
-//! executes orders. [`World::step`] makes one request on all of them and
+//! obeys orders. [`World::step`] makes one request on all of them and
 //! verifies what must then hold; [`run`] makes many in many worlds.
 
 use std::fmt;
@@ -10,7 +10,7 @@ use crate::book::{Book, Mode, SoundBook, KIND_ACCESS, KIND_DERIVATION};
 use crate::bytes;
 use crate::derive::{keys_of, outer_knowers, InnerKnowers, Key, KeySet};
 use crate::generate::{self, Random, Shape};
-use crate::host::Host;
+use crate::host::{Host, Task};
 use crate::lent::{self, Store};
 use crate::numbers::{InnerVertex, OuterVertex, Resource, User};
 use crate::open::Chains;
@@ -70,11 +70,7 @@ impl World {
         match &result {
             Ok(Answer::Orders(orders)) => {
                 check_orders(&before, request, orders)?;
-                if *request == Request::Join {
-                    self.host.welcome(orders)?;
-                } else {
-                    self.host.execute(orders)?;
-                }
+                self.host.execute(&Task::of(&before, request, orders))?;
             }
             Ok(Answer::Chains(_)) => {
                 must!(self.book.book() == &before, "an open changed the book");
@@ -202,7 +198,7 @@ fn check_orders(before: &Book, request: &Request, orders: &[Order]) -> Result<()
             "an insert with {count} orders"
         ),
         Request::Grant(r, _) => {
-            must!((1..=387).contains(&count), "a grant with {count} orders");
+            must!((1..=385).contains(&count), "a grant with {count} orders");
             must!(new_outer <= 2, "a grant made {new_outer} outer vertices");
             let mut lists: Vec<UserSet> = orders
                 .iter()
@@ -309,7 +305,7 @@ pub fn check_book(book: &Book, host: &Host, care: Care) -> Result<(), String> {
     for user in users {
         let keys = keys_of(book, user);
         check_same_keys(book, user, &keys, &inner, &outer)?;
-        let derived = host.derive(user.index());
+        let derived = host.derive(user);
         for place in 0..book.resources.len() {
             let row = &book.resources[place];
             let open = row.list.names(user);
@@ -827,8 +823,14 @@ mod tests {
 
         // A host that missed an order.
         let mut missed = world.clone();
-        let orders = missed.book.grant(Resource(0), User(1), usize::MAX).unwrap();
-        missed.host.execute(&orders[1..]).unwrap();
+        let request = Request::Revoke(Resource(1), User(1));
+        let orders = missed
+            .book
+            .revoke(Resource(1), User(1), usize::MAX)
+            .unwrap();
+        let mut task = Task::of(book, &request, &orders);
+        task.rows.pop();
+        missed.host.execute(&task).unwrap();
         assert!(check_book(missed.book(), &missed.host, Care::All).is_err());
     }
 

@@ -17,7 +17,7 @@ use crate::requests::{List, Request};
 use crate::sets::UserSet;
 
 /// The splitmix64 generator.
-#[derive(Clone, Debug)]
+#[derive(Clone, Debug, PartialEq, Eq)]
 pub struct Random(u64);
 
 impl Random {
