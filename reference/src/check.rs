@@ -5,6 +5,7 @@
 //! verifies what must then hold; [`run`] makes many in many worlds.
 
 use std::fmt;
+use std::ops::RangeInclusive;
 
 use crate::book::{Book, Mode, SoundBook, KIND_ACCESS, KIND_DERIVATION};
 use crate::bytes;
@@ -18,6 +19,7 @@ use crate::refusal::{Refusal, View};
 use crate::requests::{Answer, List, Order, Request};
 use crate::sets::UserSet;
 use crate::sound::sound;
+use crate::stops::{Breach, Watch};
 
 /// What stands in every lent byte that belongs to nobody.
 const UNUSED: u8 = 0xA7;
@@ -70,7 +72,7 @@ impl World {
         match &result {
             Ok(Answer::Orders(orders)) => {
                 check_orders(&before, request, orders)?;
-                self.host.execute(&Task::of(&before, request, orders))?;
+                self.host_step(&before, request, orders, care)?;
             }
             Ok(Answer::Chains(_)) => {
                 must!(self.book.book() == &before, "an open changed the book");
@@ -85,6 +87,31 @@ impl World {
         check_answer(&before, self.book.book(), request, &result)?;
         self.lent_step(&before, request, &result)?;
         check_book(self.book.book(), &self.host, care)
+    }
+
+    /// The orders at the host, with a look at the stops between them: at all,
+    /// or at one.
+    fn host_step(
+        &mut self,
+        before: &Book,
+        request: &Request,
+        orders: &[Order],
+        care: Care,
+    ) -> Result<(), String> {
+        let breach = |breach: Breach| format!("a stop of the host: {breach:?}");
+        let task = Task::of(before, request, orders);
+        let watch = Watch::of(self.host.clone(), before, request, task).map_err(breach)?;
+        let after = self.book.book();
+        for stop in stops(watch.last(), care) {
+            for user in looked_at(after, care) {
+                if let Some(found) = watch.stop(stop, user).pop() {
+                    return Err(breach(found));
+                }
+            }
+            watch.again(stop).map_err(breach)?;
+        }
+        self.host = watch.end(after).map_err(breach)?;
+        Ok(())
     }
 
     /// The same request on the lent tables.
@@ -291,18 +318,12 @@ pub fn check_book(book: &Book, host: &Host, care: Care) -> Result<(), String> {
         );
     }
 
-    let (users, most_resources): (Vec<User>, usize) = match care {
-        Care::All => (book.joined().users().collect(), usize::MAX),
-        Care::Some(number) => {
-            let mut random = Random::new(number);
-            let users = (0..3)
-                .filter_map(|_| generate::member(&mut random, book.joined()))
-                .collect();
-            (users, 24)
-        }
+    let most_resources = match care {
+        Care::All => usize::MAX,
+        Care::Some(_) => 24,
     };
     let judged = SoundBook(book.clone());
-    for user in users {
+    for user in looked_at(book, care) {
         let keys = keys_of(book, user);
         check_same_keys(book, user, &keys, &inner, &outer)?;
         let derived = host.derive(user);
@@ -326,6 +347,30 @@ pub fn check_book(book: &Book, host: &Host, care: Care) -> Result<(), String> {
         }
     }
     Ok(())
+}
+
+/// The users to look at: all, or a few.
+fn looked_at(book: &Book, care: Care) -> Vec<User> {
+    match care {
+        Care::All => book.joined().users().collect(),
+        Care::Some(number) => {
+            let mut random = Random::new(number);
+            (0..3)
+                .filter_map(|_| generate::member(&mut random, book.joined()))
+                .collect()
+        }
+    }
+}
+
+/// The stops in so many orders to look at: all, or one.
+fn stops(orders: usize, care: Care) -> RangeInclusive<usize> {
+    match care {
+        Care::All => 0..=orders,
+        Care::Some(number) => {
+            let stop = Random::new(number).below(orders + 1);
+            stop..=stop
+        }
+    }
 }
 
 /// The two ways to derive agree.
@@ -519,6 +564,8 @@ pub struct Summary {
     pub most_orders: usize,
     /// Longest chains of one open, both layers together.
     pub longest_open: usize,
+    /// Stops of the host looked at.
+    pub stops: usize,
 }
 
 impl fmt::Display for Summary {
@@ -537,8 +584,8 @@ impl fmt::Display for Summary {
         writeln!(f)?;
         write!(
             f,
-            "most orders of one request {}, longest open {} rows",
-            self.most_orders, self.longest_open
+            "most orders of one request {}, longest open {} rows, {} stops of the host",
+            self.most_orders, self.longest_open, self.stops
         )
     }
 }
@@ -671,7 +718,7 @@ fn run_from(
         } else {
             Care::Some(random.next())
         };
-        count(&world, &request, summary);
+        count(&world, &request, care, summary);
         world
             .step(&request, care)
             .map_err(|text| fail(step, text, &script, summary.runs))?;
@@ -681,7 +728,7 @@ fn run_from(
 }
 
 /// Notes in the summary what the request will answer.
-fn count(world: &World, request: &Request, summary: &mut Summary) {
+fn count(world: &World, request: &Request, care: Care, summary: &mut Summary) {
     match world.book.clone().answer(request, usize::MAX) {
         Ok(answer) => {
             summary.accepted += 1;
@@ -689,6 +736,7 @@ fn count(world: &World, request: &Request, summary: &mut Summary) {
             match &answer {
                 Answer::Orders(orders) => {
                     summary.most_orders = summary.most_orders.max(orders.len());
+                    summary.stops += stops(orders.len(), care).count();
                 }
                 Answer::Chains(chains) => {
                     summary.longest_open = summary.longest_open.max(chains.count());

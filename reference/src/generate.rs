@@ -478,10 +478,14 @@ pub fn request(random: &mut Random, book: &Book, most_users: usize) -> Request {
     if random.chance(1, 24) {
         return odd_request(random, book);
     }
+    if random.chance(1, 6) {
+        if let Some(request) = locking_request(random, book) {
+            return request;
+        }
+    }
     if book.resources.is_empty() || random.chance(1, 8) {
         return Request::Insert(List::from(some_list(random, book)));
     }
-    // Often a resource that shares its inner vertex with another.
     let place = random.below(book.resources.len());
     let r = Resource::at(place);
     let list = book.resources[place].list;
@@ -499,6 +503,29 @@ pub fn request(random: &mut Random, book: &Book, most_users: usize) -> Request {
             let user = member(random, list).unwrap_or(anyone);
             Request::Open(if random.chance(1, 4) { anyone } else { user }, r)
         }
+    }
+}
+
+/// A request that mostly locks more than a change of one list asks for: an
+/// insert where kind 1 tokens lead already, a second resource with an inner
+/// vertex, or a grant of one of several to somebody who does not hold it.
+fn locking_request(random: &mut Random, book: &Book) -> Option<Request> {
+    let insert = |set| Request::Insert(List::from(set));
+    if random.chance(1, 4) {
+        let mut tokens = book.inner_tokens.clone();
+        tokens.retain(|token| token.kind == KIND_ACCESS);
+        let token = random.pick(&tokens)?;
+        return Some(insert(book.inner_vertices[token.to.index()]));
+    }
+    let place = random.below(book.resources.len());
+    let inner = book.resources.get(place)?.inner;
+    let holders = InnerKnowers::of(book).holders(inner);
+    let user = member(random, book.joined().minus(holders))?;
+    let mut others = book.resources.iter().enumerate();
+    if others.any(|(other, row)| other != place && row.inner == inner && row.list == holders) {
+        Some(Request::Grant(Resource::at(place), user))
+    } else {
+        Some(insert(book.inner_vertices[inner.index()]))
     }
 }
 

@@ -2,6 +2,7 @@
 #![allow(dead_code)]
 
 use fenstubble_reference::book::{Mode, SoundBook};
+use fenstubble_reference::host::Host;
 use fenstubble_reference::numbers::{Resource, User};
 use fenstubble_reference::program;
 use fenstubble_reference::refusal::Refusal;
@@ -63,6 +64,12 @@ pub fn u(number: u16) -> User {
 /// A resource.
 pub fn r(number: u16) -> Resource {
     Resource(number)
+}
+
+/// Who of so many users opens the folder at the host.
+pub fn readers(host: &Host, users: u16, folder: usize) -> UserSet {
+    let opens = |user: &User| host.opens(&host.derive(*user), folder);
+    UserSet::first(users).users().filter(opens).collect()
 }
 
 /// Orders as rows.
