@@ -43,6 +43,28 @@ pub struct Watch {
     hosts: Vec<Host>,
 }
 
+/// The folder that a request names, and the lists before and after it.
+fn lists(book: &Book, request: &Request) -> (Option<Resource>, Vec<(UserSet, UserSet)>) {
+    let lists = book.resources.iter().map(|row| (row.list, row.list));
+    let mut lists: Vec<_> = lists.collect();
+    let named = match *request {
+        Request::Insert(list) => {
+            lists.push((list.set, list.set));
+            Some(Resource::at(book.resources.len()))
+        }
+        Request::Grant(r, u) => {
+            lists[r.index()].1 = lists[r.index()].0.with(u);
+            Some(r)
+        }
+        Request::Revoke(r, u) => {
+            lists[r.index()].1 = lists[r.index()].0.without(u);
+            Some(r)
+        }
+        Request::Join | Request::Open(..) => None,
+    };
+    (named, lists)
+}
+
 impl Watch {
     /// The host, which must be in step with the book, obeys the orders of a
     /// request on it.
@@ -53,26 +75,7 @@ impl Watch {
             host.obey(row, task.joiner).map_err(Breach::NotObeyed)?;
             hosts.push(host.clone());
         }
-        let mut lists: Vec<(UserSet, UserSet)> = book
-            .resources
-            .iter()
-            .map(|row| (row.list, row.list))
-            .collect();
-        let named = match *request {
-            Request::Insert(list) => {
-                lists.push((list.set, list.set));
-                Some(Resource::at(book.resources.len()))
-            }
-            Request::Grant(r, u) => {
-                lists[r.index()].1 = lists[r.index()].1.with(u);
-                Some(r)
-            }
-            Request::Revoke(r, u) => {
-                lists[r.index()].1 = lists[r.index()].1.without(u);
-                Some(r)
-            }
-            Request::Join | Request::Open(..) => None,
-        };
+        let (named, lists) = lists(book, request);
         Ok(Watch {
             task,
             named,
