@@ -469,19 +469,25 @@ pub fn book(random: &mut Random, shape: &Shape) -> Book {
 }
 
 /// A random request on the book: mostly one that is accepted, sometimes one
-/// that is not. Nobody joins beyond `most_users`.
+/// that is not; some are chosen for the locks that they need. Nobody joins
+/// beyond `most_users`.
 pub fn request(random: &mut Random, book: &Book, most_users: usize) -> Request {
+    if random.chance(1, 6) {
+        if let Some(request) = locking_request(random, book) {
+            return request;
+        }
+    }
+    plain_request(random, book, most_users)
+}
+
+/// The same without those that are chosen for their locks.
+pub fn plain_request(random: &mut Random, book: &Book, most_users: usize) -> Request {
     let users = usize::from(book.users);
     if users == 0 || (users < most_users && random.chance(1, 12)) {
         return Request::Join;
     }
     if random.chance(1, 24) {
         return odd_request(random, book);
-    }
-    if random.chance(1, 6) {
-        if let Some(request) = locking_request(random, book) {
-            return request;
-        }
     }
     if book.resources.is_empty() || random.chance(1, 8) {
         return Request::Insert(List::from(some_list(random, book)));
