@@ -3,19 +3,13 @@
 
 mod common;
 
-use common::{joined, readers, set, u};
+use common::{joined, p2, readers, set, u};
 use fenstubble_reference::book::Mode;
 use fenstubble_reference::host::{Host, Task};
 
-const ALL: usize = usize::MAX;
-
-/// The host of P2: users 0 to 2, inner vertex 3 for {0,1} with tokens from 0
-/// and 1, folders 0 and 1 encrypted with it, no outer locks.
+/// The host of P2.
 fn host() -> Host {
-    let mut book = joined(Mode::Delta, 3);
-    book.insert(set(&[0, 1]), ALL).unwrap();
-    book.insert(set(&[0, 1]), ALL).unwrap();
-    Host::of(book.book(), 1).unwrap()
+    Host::of(p2().book(), 1).unwrap()
 }
 
 #[test]

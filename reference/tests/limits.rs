@@ -2,15 +2,13 @@
 
 mod common;
 
-use common::{joined, number, r, rows, set, u};
+use common::{joined, number, r, rows, set, u, ALL};
 use fenstubble_reference::book::{Mode, SoundBook};
 use fenstubble_reference::generate::Random;
 use fenstubble_reference::lent::{self, Store};
 use fenstubble_reference::requests::{cover, Request};
 use fenstubble_reference::sets::UserSet;
 use fenstubble_reference::sound::sound;
-
-const ALL: usize = usize::MAX;
 
 /// A random set of so many of 64 users.
 fn of_size(random: &mut Random, size: u32) -> UserSet {

@@ -2,15 +2,13 @@
 
 mod common;
 
-use common::{joined, number, output, r, rows, script, set, u};
+use common::{joined, number, output, r, rows, script, set, u, ALL};
 use fenstubble_reference::book::{Book, Mode, SoundBook};
 use fenstubble_reference::bytes;
 use fenstubble_reference::lent::{self, Store};
 use fenstubble_reference::refusal::View;
 use fenstubble_reference::requests::cover;
 use fenstubble_reference::sets::UserSet;
-
-const ALL: usize = usize::MAX;
 
 #[test]
 fn sample_transcript() {

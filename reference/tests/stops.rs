@@ -6,7 +6,7 @@ mod common;
 
 use std::collections::{BTreeMap, BTreeSet};
 
-use common::{joined, r, readers, set, u};
+use common::{joined, p2, r, readers, set, u, ALL};
 use fenstubble_reference::book::{Book, Mode, SoundBook};
 use fenstubble_reference::generate::{self, Random, Shape};
 use fenstubble_reference::host::{Host, Task};
@@ -14,8 +14,6 @@ use fenstubble_reference::numbers::{Resource, User};
 use fenstubble_reference::requests::{Answer, Request};
 use fenstubble_reference::sets::UserSet;
 use fenstubble_reference::stops::{Breach, Watch};
-
-const ALL: usize = usize::MAX;
 
 type Rows = Vec<[u16; 3]>;
 
@@ -290,9 +288,7 @@ fn the_own_folder_first_is_safe_but_numbered_otherwise() {
 
 /// The book and host of P2, the request of P3 and the book it leaves.
 fn p3() -> (Book, Host, Request, Book, Task) {
-    let mut book = joined(Mode::Delta, 3);
-    book.insert(set(&[0, 1]), ALL).unwrap();
-    book.insert(set(&[0, 1]), ALL).unwrap();
+    let mut book = p2();
     let before = book.book().clone();
     let orders = book.grant(r(0), u(2), ALL).unwrap();
     let request = Request::Grant(r(0), u(2));
