@@ -1,6 +1,6 @@
 //! A host that stops anywhere in a request's orders (RULES 6.6), and goes on
-//! (RULES 6.7): random runs in which every stop is looked at, and the same with
-//! orders that stand otherwise.
+//! (RULES 6.7): random runs, and all runs in a tiny world, in which every stop
+//! is looked at; and the same with orders that stand otherwise.
 
 mod common;
 
@@ -8,6 +8,7 @@ use std::collections::{BTreeMap, BTreeSet};
 
 use common::{joined, p2, r, readers, set, u, ALL};
 use fenstubble_reference::book::{Book, Mode, SoundBook};
+use fenstubble_reference::bytes;
 use fenstubble_reference::generate::{self, Random, Shape};
 use fenstubble_reference::host::{Host, Task};
 use fenstubble_reference::numbers::{Resource, User};
@@ -203,6 +204,67 @@ fn every_stop_is_safe() {
     assert_eq!(tally.cases.len(), 15);
     for (case, met) in tally.cases {
         assert!(met >= 100, "{case}: {met}");
+    }
+}
+
+/// Every request that a world of so many users and folders allows.
+fn every_request(book: &Book, users: u16, folders: usize) -> Vec<Request> {
+    let mut all = Vec::new();
+    if book.users < users {
+        all.push(Request::Join);
+    }
+    if book.resources.len() < folders {
+        all.extend((1..=book.joined().0).map(|bits| Request::Insert(UserSet(bits).into())));
+    }
+    for place in 0..book.resources.len() {
+        for user in book.joined().users() {
+            all.push(Request::Grant(Resource::at(place), user));
+            all.push(Request::Revoke(Resource::at(place), user));
+        }
+    }
+    all
+}
+
+/// Looks at every stop of every run from the empty book in a world of so many
+/// users and folders: of every request on every book that requests lead to.
+fn every_run(mode: Mode, users: u16, folders: usize) -> Tally {
+    let mut tally = Tally::default();
+    let mut seen = BTreeSet::from([bytes::write(&Book::empty(mode))]);
+    let mut next = vec![SoundBook::empty(mode)];
+    while let Some(book) = next.pop() {
+        let host = Host::of(book.book(), 5).unwrap();
+        for request in every_request(book.book(), users, folders) {
+            let mut after = book.clone();
+            let Ok(Answer::Orders(orders)) = after.answer(&request, ALL) else {
+                continue;
+            };
+            let task = Task::of(book.book(), &request, &orders);
+            tally.watch(&host, [book.book(), after.book()], &request, task);
+            if seen.insert(bytes::write(after.book())) {
+                next.push(after);
+            }
+        }
+    }
+    println!("{mode:?}, {} books: {tally:?}", seen.len());
+    tally
+}
+
+#[test]
+fn every_run_of_two_users_and_three_folders() {
+    for mode in [Mode::Full, Mode::Delta] {
+        let tally = every_run(mode, 2, 3);
+        assert_eq!(tally.first, None);
+        assert!(tally.stops > 100_000);
+    }
+}
+
+#[test]
+#[ignore = "some minutes, and a gigabyte or so"]
+fn every_run_of_three_users_and_two_folders() {
+    for mode in [Mode::Full, Mode::Delta] {
+        let tally = every_run(mode, 3, 2);
+        assert_eq!(tally.first, None);
+        assert!(tally.stops > 30_000_000);
     }
 }
 
