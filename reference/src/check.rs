@@ -1,16 +1,17 @@
 //! Random runs that verify every step.
 //!
 //! A [`World`] is a book, the same book in lent tables, and a host that only
-//! executes orders. [`World::step`] makes one request on all of them and
+//! obeys orders. [`World::step`] makes one request on all of them and
 //! verifies what must then hold; [`run`] makes many in many worlds.
 
 use std::fmt;
+use std::ops::RangeInclusive;
 
 use crate::book::{Book, Mode, SoundBook, KIND_ACCESS, KIND_DERIVATION};
 use crate::bytes;
 use crate::derive::{keys_of, outer_knowers, InnerKnowers, Key, KeySet};
 use crate::generate::{self, Random, Shape};
-use crate::host::Host;
+use crate::host::{Host, Task};
 use crate::lent::{self, Store};
 use crate::numbers::{InnerVertex, OuterVertex, Resource, User};
 use crate::open::Chains;
@@ -18,6 +19,7 @@ use crate::refusal::{Refusal, View};
 use crate::requests::{Answer, List, Order, Request};
 use crate::sets::UserSet;
 use crate::sound::sound;
+use crate::stops::{Breach, Watch};
 
 /// What stands in every lent byte that belongs to nobody.
 const UNUSED: u8 = 0xA7;
@@ -70,11 +72,7 @@ impl World {
         match &result {
             Ok(Answer::Orders(orders)) => {
                 check_orders(&before, request, orders)?;
-                if *request == Request::Join {
-                    self.host.welcome(orders)?;
-                } else {
-                    self.host.execute(orders)?;
-                }
+                self.host_step(&before, request, orders, care)?;
             }
             Ok(Answer::Chains(_)) => {
                 must!(self.book.book() == &before, "an open changed the book");
@@ -89,6 +87,31 @@ impl World {
         check_answer(&before, self.book.book(), request, &result)?;
         self.lent_step(&before, request, &result)?;
         check_book(self.book.book(), &self.host, care)
+    }
+
+    /// The orders at the host, with a look at the stops between them: at all,
+    /// or at one.
+    fn host_step(
+        &mut self,
+        before: &Book,
+        request: &Request,
+        orders: &[Order],
+        care: Care,
+    ) -> Result<(), String> {
+        let breach = |breach: Breach| format!("a stop of the host: {breach:?}");
+        let task = Task::of(before, request, orders);
+        let watch = Watch::of(self.host.clone(), before, request, task).map_err(breach)?;
+        let after = self.book.book();
+        for stop in stops(watch.last(), care) {
+            for user in looked_at(after, care) {
+                if let Some(found) = watch.stop(stop, user).pop() {
+                    return Err(breach(found));
+                }
+            }
+            watch.again(stop).map_err(breach)?;
+        }
+        self.host = watch.end(after).map_err(breach)?;
+        Ok(())
     }
 
     /// The same request on the lent tables.
@@ -202,7 +225,7 @@ fn check_orders(before: &Book, request: &Request, orders: &[Order]) -> Result<()
             "an insert with {count} orders"
         ),
         Request::Grant(r, _) => {
-            must!((1..=387).contains(&count), "a grant with {count} orders");
+            must!((1..=385).contains(&count), "a grant with {count} orders");
             must!(new_outer <= 2, "a grant made {new_outer} outer vertices");
             let mut lists: Vec<UserSet> = orders
                 .iter()
@@ -295,21 +318,15 @@ pub fn check_book(book: &Book, host: &Host, care: Care) -> Result<(), String> {
         );
     }
 
-    let (users, most_resources): (Vec<User>, usize) = match care {
-        Care::All => (book.joined().users().collect(), usize::MAX),
-        Care::Some(number) => {
-            let mut random = Random::new(number);
-            let users = (0..3)
-                .filter_map(|_| generate::member(&mut random, book.joined()))
-                .collect();
-            (users, 24)
-        }
+    let most_resources = match care {
+        Care::All => usize::MAX,
+        Care::Some(_) => 24,
     };
     let judged = SoundBook(book.clone());
-    for user in users {
+    for user in looked_at(book, care) {
         let keys = keys_of(book, user);
         check_same_keys(book, user, &keys, &inner, &outer)?;
-        let derived = host.derive(user.index());
+        let derived = host.derive(user);
         for place in 0..book.resources.len() {
             let row = &book.resources[place];
             let open = row.list.names(user);
@@ -330,6 +347,30 @@ pub fn check_book(book: &Book, host: &Host, care: Care) -> Result<(), String> {
         }
     }
     Ok(())
+}
+
+/// The users to look at: all, or a few.
+fn looked_at(book: &Book, care: Care) -> Vec<User> {
+    match care {
+        Care::All => book.joined().users().collect(),
+        Care::Some(number) => {
+            let mut random = Random::new(number);
+            (0..3)
+                .filter_map(|_| generate::member(&mut random, book.joined()))
+                .collect()
+        }
+    }
+}
+
+/// The stops in so many orders to look at: all, or one.
+fn stops(orders: usize, care: Care) -> RangeInclusive<usize> {
+    match care {
+        Care::All => 0..=orders,
+        Care::Some(number) => {
+            let stop = Random::new(number).below(orders + 1);
+            stop..=stop
+        }
+    }
 }
 
 /// The two ways to derive agree.
@@ -523,6 +564,8 @@ pub struct Summary {
     pub most_orders: usize,
     /// Longest chains of one open, both layers together.
     pub longest_open: usize,
+    /// Stops of the host looked at.
+    pub stops: usize,
 }
 
 impl fmt::Display for Summary {
@@ -541,8 +584,8 @@ impl fmt::Display for Summary {
         writeln!(f)?;
         write!(
             f,
-            "most orders of one request {}, longest open {} rows",
-            self.most_orders, self.longest_open
+            "most orders of one request {}, longest open {} rows, {} stops of the host",
+            self.most_orders, self.longest_open, self.stops
         )
     }
 }
@@ -675,7 +718,7 @@ fn run_from(
         } else {
             Care::Some(random.next())
         };
-        count(&world, &request, summary);
+        count(&world, &request, care, summary);
         world
             .step(&request, care)
             .map_err(|text| fail(step, text, &script, summary.runs))?;
@@ -685,7 +728,7 @@ fn run_from(
 }
 
 /// Notes in the summary what the request will answer.
-fn count(world: &World, request: &Request, summary: &mut Summary) {
+fn count(world: &World, request: &Request, care: Care, summary: &mut Summary) {
     match world.book.clone().answer(request, usize::MAX) {
         Ok(answer) => {
             summary.accepted += 1;
@@ -693,6 +736,7 @@ fn count(world: &World, request: &Request, summary: &mut Summary) {
             match &answer {
                 Answer::Orders(orders) => {
                     summary.most_orders = summary.most_orders.max(orders.len());
+                    summary.stops += stops(orders.len(), care).count();
                 }
                 Answer::Chains(chains) => {
                     summary.longest_open = summary.longest_open.max(chains.count());
@@ -827,8 +871,14 @@ mod tests {
 
         // A host that missed an order.
         let mut missed = world.clone();
-        let orders = missed.book.grant(Resource(0), User(1), usize::MAX).unwrap();
-        missed.host.execute(&orders[1..]).unwrap();
+        let request = Request::Revoke(Resource(1), User(1));
+        let orders = missed
+            .book
+            .revoke(Resource(1), User(1), usize::MAX)
+            .unwrap();
+        let mut task = Task::of(book, &request, &orders);
+        task.rows.pop();
+        missed.host.execute(&task).unwrap();
         assert!(check_book(missed.book(), &missed.host, Care::All).is_err());
     }
 

@@ -17,7 +17,7 @@ use crate::requests::{List, Request};
 use crate::sets::UserSet;
 
 /// The splitmix64 generator.
-#[derive(Clone, Debug)]
+#[derive(Clone, Debug, PartialEq, Eq)]
 pub struct Random(u64);
 
 impl Random {
@@ -469,8 +469,19 @@ pub fn book(random: &mut Random, shape: &Shape) -> Book {
 }
 
 /// A random request on the book: mostly one that is accepted, sometimes one
-/// that is not. Nobody joins beyond `most_users`.
+/// that is not; some are chosen for the locks that they need. Nobody joins
+/// beyond `most_users`.
 pub fn request(random: &mut Random, book: &Book, most_users: usize) -> Request {
+    if random.chance(1, 6) {
+        if let Some(request) = locking_request(random, book) {
+            return request;
+        }
+    }
+    plain_request(random, book, most_users)
+}
+
+/// The same without those that are chosen for their locks.
+pub fn plain_request(random: &mut Random, book: &Book, most_users: usize) -> Request {
     let users = usize::from(book.users);
     if users == 0 || (users < most_users && random.chance(1, 12)) {
         return Request::Join;
@@ -481,7 +492,6 @@ pub fn request(random: &mut Random, book: &Book, most_users: usize) -> Request {
     if book.resources.is_empty() || random.chance(1, 8) {
         return Request::Insert(List::from(some_list(random, book)));
     }
-    // Often a resource that shares its inner vertex with another.
     let place = random.below(book.resources.len());
     let r = Resource::at(place);
     let list = book.resources[place].list;
@@ -499,6 +509,29 @@ pub fn request(random: &mut Random, book: &Book, most_users: usize) -> Request {
             let user = member(random, list).unwrap_or(anyone);
             Request::Open(if random.chance(1, 4) { anyone } else { user }, r)
         }
+    }
+}
+
+/// A request that mostly locks more than a change of one list asks for: an
+/// insert where kind 1 tokens lead already, a second resource with an inner
+/// vertex, or a grant of one of several to somebody who does not hold it.
+fn locking_request(random: &mut Random, book: &Book) -> Option<Request> {
+    let insert = |set| Request::Insert(List::from(set));
+    if random.chance(1, 4) {
+        let mut tokens = book.inner_tokens.clone();
+        tokens.retain(|token| token.kind == KIND_ACCESS);
+        let token = random.pick(&tokens)?;
+        return Some(insert(book.inner_vertices[token.to.index()]));
+    }
+    let place = random.below(book.resources.len());
+    let inner = book.resources.get(place)?.inner;
+    let holders = InnerKnowers::of(book).holders(inner);
+    let user = member(random, book.joined().minus(holders))?;
+    let mut others = book.resources.iter().enumerate();
+    if others.any(|(other, row)| other != place && row.inner == inner && row.list == holders) {
+        Some(Request::Grant(Resource::at(place), user))
+    } else {
+        Some(insert(book.inner_vertices[inner.index()]))
     }
 }
 

@@ -1,4 +1,4 @@
-//! A host that only executes orders.
+//! A host that only obeys orders (RULES 6.5 to 6.7).
 //!
 //! It never sees a list or a set of users. It keeps its own graph and gives
 //! every key a value: toys of 64 bits, but used as the method asks. A token
@@ -7,14 +7,19 @@
 //! is masked with its access key, then with its outer key if it has one, and
 //! re-locking never touches the inner mask. Whoever ends with the plain value
 //! has opened the folder.
+//!
+//! Two hosts are equal if they have the same keys, tokens and locks, to the
+//! value. What an order asks for must not be there yet; only a host that goes
+//! on after a stop, and so obeys orders again, leaves it as it is.
 
-use crate::book::{Book, KIND_ACCESS, KIND_DERIVATION};
+use crate::book::{Book, KIND_ACCESS, KIND_DERIVATION, NO_OUTER_KEY};
 use crate::generate::Random;
-use crate::requests::Order;
+use crate::numbers::User;
+use crate::requests::{Order, Request};
 
 /// A token of the host: where from, where to, its kind (0 in the outer
 /// layer), and its public value.
-#[derive(Clone, Debug)]
+#[derive(Clone, Debug, PartialEq, Eq)]
 struct Token {
     from: usize,
     to: usize,
@@ -22,8 +27,17 @@ struct Token {
     value: u64,
 }
 
+/// Where a token starts and leads, and its kind.
+type Way = (usize, usize, u8);
+
+impl Token {
+    fn way(&self) -> Way {
+        (self.from, self.to, self.kind)
+    }
+}
+
 /// A folder of the host.
-#[derive(Clone, Debug)]
+#[derive(Clone, Debug, PartialEq, Eq)]
 struct Folder {
     inner: usize,
     outer: Option<usize>,
@@ -33,8 +47,15 @@ struct Folder {
     plain: u64,
 }
 
+/// The vertices whose keys a user was handed on joining.
+#[derive(Clone, Copy, Debug, Default, PartialEq, Eq)]
+struct Handed {
+    inner: Option<usize>,
+    outer: Option<usize>,
+}
+
 /// The host.
-#[derive(Clone, Debug)]
+#[derive(Clone, Debug, PartialEq, Eq)]
 pub struct Host {
     random: Random,
     /// Derivation keys of the inner vertices.
@@ -44,8 +65,29 @@ pub struct Host {
     inner_tokens: Vec<Token>,
     outer_tokens: Vec<Token>,
     folders: Vec<Folder>,
-    /// Each user's own vertices, inner and outer.
-    own: Vec<(usize, usize)>,
+    /// The lock kept in mind for the folder that is encrypted next.
+    next_lock: Option<usize>,
+    /// What each user was handed.
+    handed: Vec<Handed>,
+}
+
+/// The orders of one request, as rows.
+#[derive(Clone, Debug, PartialEq, Eq)]
+pub struct Task {
+    /// The rows.
+    pub rows: Vec<[u16; 3]>,
+    /// Who is handed the keys that are made, if it is a join.
+    pub joiner: Option<User>,
+}
+
+impl Task {
+    /// The orders of an accepted request on that book.
+    pub fn of(book: &Book, request: &Request, orders: &[Order]) -> Task {
+        Task {
+            rows: orders.iter().map(|order| order.row()).collect(),
+            joiner: (*request == Request::Join).then_some(User(book.users)),
+        }
+    }
 }
 
 /// What a user of the host derived: the keys' values.
@@ -89,6 +131,14 @@ fn folder_mask(key: u64, folder: usize) -> u64 {
     hash(key, LABEL_FOLDER + folder as u64)
 }
 
+/// What the users of a book were handed: the keys of their own vertices.
+fn handed(book: &Book) -> impl Iterator<Item = Handed> + '_ {
+    book.joined().users().map(|user| Handed {
+        inner: book.own_inner_vertex(user).map(|vertex| vertex.index()),
+        outer: book.own_outer_vertex(user).map(|vertex| vertex.index()),
+    })
+}
+
 impl Host {
     /// A host with nothing, whose keys come from the seed.
     pub fn new(seed: u64) -> Host {
@@ -99,93 +149,119 @@ impl Host {
             inner_tokens: Vec::new(),
             outer_tokens: Vec::new(),
             folders: Vec::new(),
-            own: Vec::new(),
+            next_lock: None,
+            handed: Vec::new(),
         }
     }
 
-    /// A host that has executed orders for all that stands in the book.
+    /// A host that has obeyed orders for all that stands in the book.
     pub fn of(book: &Book, seed: u64) -> Result<Host, String> {
         let mut host = Host::new(seed);
+        let mut row = |row| host.obey(row, None);
         for place in 0..book.inner_vertices.len() {
-            host.row([4, place as u16, 0])?;
+            row([4, place as u16, 0])?;
         }
         for place in 0..book.outer_vertices.len() {
-            host.row([1, place as u16, 0])?;
+            row([1, place as u16, 0])?;
         }
         for token in &book.inner_tokens {
             let kind = if token.kind == KIND_DERIVATION { 5 } else { 6 };
-            host.row([kind, token.from.0, token.to.0])?;
+            row([kind, token.from.0, token.to.0])?;
         }
         for token in &book.outer_tokens {
-            host.row([2, token.from.0, token.to.0])?;
+            row([2, token.from.0, token.to.0])?;
         }
-        for (place, row) in book.resources.iter().enumerate() {
-            host.row([7, place as u16, row.inner.0])?;
-            if let Some(outer) = row.outer {
-                host.row([3, place as u16, outer.0])?;
+        for (place, folder) in book.resources.iter().enumerate() {
+            if let Some(outer) = folder.outer {
+                row([3, place as u16, outer.0])?;
             }
+            row([7, place as u16, folder.inner.0])?;
         }
-        for user in book.joined().users() {
-            match (book.own_inner_vertex(user), book.own_outer_vertex(user)) {
-                (Some(inner), Some(outer)) => host.own.push((inner.index(), outer.index())),
-                _ => return Err(format!("user {} has no own vertices", user.0)),
-            }
-        }
+        host.handed = handed(book).collect();
         Ok(host)
     }
 
-    /// Executes the orders of a join, whose two vertices are the new user's.
-    pub fn welcome(&mut self, orders: &[Order]) -> Result<(), String> {
-        let &[Order::InnerVertex(inner), Order::OuterVertex(outer)] = orders else {
-            return Err(format!("not the orders of a join: {orders:?}"));
-        };
-        self.execute(orders)?;
-        self.own.push((inner.index(), outer.index()));
-        Ok(())
+    /// Obeys all orders of a request.
+    pub fn execute(&mut self, task: &Task) -> Result<(), String> {
+        let mut rows = task.rows.iter();
+        rows.try_for_each(|&row| self.obey(row, task.joiner))?;
+        match self.next_lock {
+            None => Ok(()),
+            Some(lock) => Err(format!("lock {lock} is for a folder that did not come")),
+        }
     }
 
-    /// Executes orders.
-    pub fn execute(&mut self, orders: &[Order]) -> Result<(), String> {
-        orders.iter().try_for_each(|order| self.row(order.row()))
+    /// Obeys one order. What it asks for must not be there yet.
+    pub fn obey(&mut self, row: [u16; 3], joiner: Option<User>) -> Result<(), String> {
+        if self.has(row) {
+            return Err(format!("asked for what is there already: {row:?}"));
+        }
+        self.make(row, joiner)
     }
 
-    /// Executes one order given as a row.
-    pub fn row(&mut self, row: [u16; 3]) -> Result<(), String> {
-        let impossible = || Err(format!("an order that can not be executed: {row:?}"));
+    /// Obeys one order once more. What is there already stays as it is.
+    pub fn obey_again(&mut self, row: [u16; 3], joiner: Option<User>) -> Result<(), String> {
+        if self.has(row) {
+            return Ok(());
+        }
+        self.make(row, joiner)
+    }
+
+    /// Whether what the order asks for is there: a key, a token, a lock or an
+    /// encrypted folder.
+    fn has(&self, [kind, a, b]: [u16; 3]) -> bool {
+        let lock = (b != NO_OUTER_KEY).then_some(usize::from(b));
+        let (a, b) = (usize::from(a), usize::from(b));
+        let among = |tokens: &[Token], way: Way| tokens.iter().any(|token| token.way() == way);
+        match kind {
+            1 => a < self.outer.len(),
+            2 => among(&self.outer_tokens, (a, b, 0)),
+            3 => match self.folders.get(a) {
+                Some(folder) => folder.outer == lock,
+                None => a == self.folders.len() && lock.is_some() && self.next_lock == lock,
+            },
+            4 => a < self.inner.len(),
+            5 => among(&self.inner_tokens, (a, b, KIND_DERIVATION)),
+            6 => among(&self.inner_tokens, (a, b, KIND_ACCESS)),
+            7 => self.folders.get(a).is_some_and(|folder| folder.inner == b),
+            _ => false,
+        }
+    }
+
+    /// Makes what the order asks for.
+    fn make(&mut self, row: [u16; 3], joiner: Option<User>) -> Result<(), String> {
         let [kind, a, b] = row;
+        let unlocks = b == NO_OUTER_KEY;
         let (a, b) = (usize::from(a), usize::from(b));
         match kind {
-            1 if a == self.outer.len() && b == 0 => self.outer.push(self.random.next()),
+            1 if a == self.outer.len() && b == 0 => {
+                self.outer.push(self.random.next());
+                if let Some(user) = joiner {
+                    self.hands(user).outer = Some(a);
+                }
+            }
             2 if a < self.outer.len() && b < self.outer.len() => {
-                let value = self.outer[b] ^ outer_token_mask(self.outer[a], b);
                 self.outer_tokens.push(Token {
                     from: a,
                     to: b,
                     kind: 0,
-                    value,
+                    value: self.outer[b] ^ outer_token_mask(self.outer[a], b),
                 });
             }
-            3 if a < self.folders.len() && (b < self.outer.len() || b == 65535) => {
-                let folder = &mut self.folders[a];
-                if let Some(old) = folder.outer {
-                    folder.sealed ^= folder_mask(self.outer[old], a);
-                }
-                folder.outer = (b != 65535).then_some(b);
-                if let Some(new) = folder.outer {
-                    folder.sealed ^= folder_mask(self.outer[new], a);
+            3 if a < self.folders.len() && unlocks => self.relock(a, None),
+            3 if a < self.folders.len() && b < self.outer.len() => self.relock(a, Some(b)),
+            3 if a == self.folders.len() && b < self.outer.len() => self.next_lock = Some(b),
+            4 if a == self.inner.len() && b == 0 => {
+                self.inner.push(self.random.next());
+                if let Some(user) = joiner {
+                    self.hands(user).inner = Some(a);
                 }
             }
-            4 if a == self.inner.len() && b == 0 => self.inner.push(self.random.next()),
             5 | 6 if a < self.inner.len() && b < self.inner.len() => {
-                let kind = if kind == 5 {
-                    KIND_DERIVATION
+                let (kind, target) = if kind == 5 {
+                    (KIND_DERIVATION, self.inner[b])
                 } else {
-                    KIND_ACCESS
-                };
-                let target = if kind == KIND_DERIVATION {
-                    self.inner[b]
-                } else {
-                    access_key(self.inner[b])
+                    (KIND_ACCESS, access_key(self.inner[b]))
                 };
                 self.inner_tokens.push(Token {
                     from: a,
@@ -202,19 +278,51 @@ impl Host {
                     sealed: plain ^ folder_mask(access_key(self.inner[b]), a),
                     plain,
                 });
+                let lock = self.next_lock.take();
+                self.relock(a, lock);
             }
-            _ => return impossible(),
+            _ => return Err(format!("an order that can not be obeyed: {row:?}")),
         }
         Ok(())
     }
 
-    /// What the user derives from their two own keys and the public tokens.
-    pub fn derive(&self, user: usize) -> Derived {
+    /// What the user was handed, nothing as yet if they are new.
+    fn hands(&mut self, user: User) -> &mut Handed {
+        if self.handed.len() <= user.index() {
+            self.handed.resize(user.index() + 1, Handed::default());
+        }
+        &mut self.handed[user.index()]
+    }
+
+    /// Takes the folder's outer lock off, if there is one, and puts this one
+    /// on, if it is one.
+    fn relock(&mut self, place: usize, lock: Option<usize>) {
+        let folder = &mut self.folders[place];
+        if let Some(old) = folder.outer {
+            folder.sealed ^= folder_mask(self.outer[old], place);
+        }
+        if let Some(new) = lock {
+            folder.sealed ^= folder_mask(self.outer[new], place);
+        }
+        folder.outer = lock;
+    }
+
+    /// How many folders are encrypted.
+    pub fn folders(&self) -> usize {
+        self.folders.len()
+    }
+
+    /// What the user derives from the keys handed to them and the public
+    /// tokens.
+    pub fn derive(&self, user: User) -> Derived {
         let mut derivation: Vec<Option<u64>> = vec![None; self.inner.len()];
         let mut outer: Vec<Option<u64>> = vec![None; self.outer.len()];
-        if let Some(&(own_inner, own_outer)) = self.own.get(user) {
-            derivation[own_inner] = Some(self.inner[own_inner]);
-            outer[own_outer] = Some(self.outer[own_outer]);
+        let handed = self.handed.get(user.index()).copied().unwrap_or_default();
+        if let Some(own) = handed.inner {
+            derivation[own] = Some(self.inner[own]);
+        }
+        if let Some(own) = handed.outer {
+            outer[own] = Some(self.outer[own]);
         }
         let mut more = true;
         while more {
@@ -264,7 +372,7 @@ impl Host {
     }
 
     /// Whether the host's graph is exactly the book's: vertices, tokens in
-    /// their rows, and the two keys of every resource.
+    /// their rows, the two keys of every resource, and what was handed out.
     pub fn agrees(&self, book: &Book) -> Result<(), String> {
         let differ = |what: &str| Err(format!("the host's {what} differ from the book's"));
         if self.inner.len() != book.inner_vertices.len() {
@@ -277,15 +385,14 @@ impl Host {
             .inner_tokens
             .iter()
             .map(|token| (token.from.index(), token.to.index(), token.kind));
-        let own = |token: &Token| (token.from, token.to, token.kind);
-        if !self.inner_tokens.iter().map(own).eq(inner_tokens) {
+        if !self.inner_tokens.iter().map(Token::way).eq(inner_tokens) {
             return differ("inner tokens");
         }
         let outer_tokens = book
             .outer_tokens
             .iter()
             .map(|token| (token.from.index(), token.to.index(), 0));
-        if !self.outer_tokens.iter().map(own).eq(outer_tokens) {
+        if !self.outer_tokens.iter().map(Token::way).eq(outer_tokens) {
             return differ("outer tokens");
         }
         let locks = book
@@ -293,10 +400,10 @@ impl Host {
             .iter()
             .map(|row| (row.inner.index(), row.outer.map(|vertex| vertex.index())));
         let own = |folder: &Folder| (folder.inner, folder.outer);
-        if !self.folders.iter().map(own).eq(locks) {
+        if !self.folders.iter().map(own).eq(locks) || self.next_lock.is_some() {
             return differ("locks");
         }
-        if self.own.len() != usize::from(book.users) {
+        if !self.handed.iter().copied().eq(handed(book)) {
             return differ("users");
         }
         Ok(())

@@ -20,7 +20,8 @@
 //! | [`lent`] | the same calls over tables lent as bytes |
 //! | [`program`] | the request program |
 //! | [`inspect`] | the check program |
-//! | [`host`] | a host that only executes orders, with toy keys |
+//! | [`host`] | a host that only obeys orders, with toy keys |
+//! | [`stops`] | that host stopped in the middle of a request, and going on |
 //! | [`generate`] | random sound books, damaged books and requests |
 //! | [`check`] | random runs that verify every step |
 
@@ -43,3 +44,4 @@ pub mod refusal;
 pub mod requests;
 pub mod sets;
 pub mod sound;
+pub mod stops;

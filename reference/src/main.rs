@@ -21,9 +21,9 @@ reference --inspect < book
 
 reference --check [seed] [steps]
     Makes random requests (20000 from seed 1, if not told otherwise) in random
-    worlds of both modes and verifies every step. Prints a summary; a failure
-    prints the seed, the step and the smallest script found, and exits with
-    status 1.
+    worlds of both modes and verifies every step, and the stops of a host
+    between its orders. Prints a summary; a failure prints the seed, the step
+    and the smallest script found, and exits with status 1.
 
 reference --help
     Prints this.

@@ -266,7 +266,6 @@ impl<'a> Work<'a> {
             inner,
             outer: None,
         });
-        self.orders.push(Order::Encrypt(r, inner));
         match mode {
             Mode::Full => self.lock(r, list),
             Mode::Delta => {
@@ -275,6 +274,8 @@ impl<'a> Work<'a> {
                 }
             }
         }
+        // Last, so that the host never has the folder without its lock.
+        self.orders.push(Order::Encrypt(r, inner));
     }
 
     fn grant(&mut self, mode: Mode, r: Resource, u: User) {
@@ -283,9 +284,15 @@ impl<'a> Work<'a> {
         self.set_list(r, list);
 
         let mut holders = derive::holders(self.book, inner);
+        let mut publish = None;
         if !holders.names(u) {
-            if let Some(own) = self.book.own_inner_vertex(u) {
-                self.add_inner_token(own, inner, KIND_ACCESS);
+            if let Some(from) = self.book.own_inner_vertex(u) {
+                self.book.inner_tokens.push(InnerToken {
+                    from,
+                    to: inner,
+                    kind: KIND_ACCESS,
+                });
+                publish = Some(Order::AccessToken(from, inner));
             }
             holders = derive::holders(self.book, inner);
         }
@@ -299,6 +306,8 @@ impl<'a> Work<'a> {
             Mode::Delta if holders == list => self.unlock(r),
             _ => self.lock(r, list),
         }
+        // Last, so that the neighbours are locked before it goes up.
+        self.orders.extend(publish);
     }
 
     /// The other resources with the inner vertex whose list is not the
@@ -372,7 +381,7 @@ impl<'a> Work<'a> {
         let sources = cover(&self.book.inner_vertices, set);
         let vertex = self.add_inner_vertex(set);
         for source in sources {
-            self.add_inner_token(InnerVertex::at(source), vertex, KIND_DERIVATION);
+            self.add_derivation_token(InnerVertex::at(source), vertex);
         }
         vertex
     }
@@ -404,13 +413,10 @@ impl<'a> Work<'a> {
         vertex
     }
 
-    fn add_inner_token(&mut self, from: InnerVertex, to: InnerVertex, kind: u8) {
+    fn add_derivation_token(&mut self, from: InnerVertex, to: InnerVertex) {
+        let kind = KIND_DERIVATION;
         self.book.inner_tokens.push(InnerToken { from, to, kind });
-        self.orders.push(if kind == KIND_ACCESS {
-            Order::AccessToken(from, to)
-        } else {
-            Order::DerivationToken(from, to)
-        });
+        self.orders.push(Order::DerivationToken(from, to));
     }
 
     fn add_outer_token(&mut self, from: OuterVertex, to: OuterVertex) {

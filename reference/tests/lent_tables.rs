@@ -3,25 +3,13 @@
 
 mod common;
 
-use common::{joined, number, r, set, u};
-use fenstubble_reference::book::{Head, Mode, SoundBook};
+use common::{number, p5};
+use fenstubble_reference::book::{Head, SoundBook};
 use fenstubble_reference::bytes::{self, LIMITS, WIDTHS};
 use fenstubble_reference::generate::{self, Random, Shape};
 use fenstubble_reference::lent::{self, Store};
 use fenstubble_reference::refusal::{Refusal, View};
 use fenstubble_reference::requests::{Answer, Request};
-
-const ALL: usize = usize::MAX;
-
-/// P1 to P5.
-fn base() -> SoundBook {
-    let mut book = joined(Mode::Delta, 3);
-    book.insert(set(&[0, 1]), ALL).unwrap();
-    book.insert(set(&[0, 1]), ALL).unwrap();
-    book.grant(r(0), u(2), ALL).unwrap();
-    book.revoke(r(0), u(1), ALL).unwrap();
-    book
-}
 
 /// The refusal of every call that takes tables, with arguments that would
 /// get other numbers as well; nothing may be touched.
@@ -56,7 +44,7 @@ fn every_call(head: &Head, store: &mut Store, bytes: &[u8]) -> Vec<u8> {
 
 #[test]
 fn thirteen_before_all() {
-    let book = base();
+    let book = p5();
     let head = book.book().head();
     let whole = Store::of(book.book(), 1);
     for k in 0..5 {
@@ -88,7 +76,7 @@ const UNSOUND: [u8; 9] = [12, 12, 12, 12, 12, 12, 12, 12, 24];
 
 #[test]
 fn twelve_before_the_rest() {
-    let book = base();
+    let book = p5();
     let head = book.book().head();
     let mut store = Store::of(book.book(), 1);
     let heads = [
@@ -184,7 +172,7 @@ fn twelve_before_the_rest() {
 
 #[test]
 fn the_order_of_the_rest() {
-    let book = base();
+    let book = p5();
     let head = book.book().head();
     let mut store = Store::of(book.book(), 1);
     let untouched = store.clone();
@@ -279,7 +267,7 @@ fn read_write_and_sections() {
 
 #[test]
 fn every_byte_of_the_head_counts() {
-    let written = bytes::write(base().book());
+    let written = bytes::write(p5().book());
     assert!(bytes::read(&written).is_ok());
     for at in 0..17 {
         for value in 0..=255 {
@@ -366,7 +354,7 @@ fn serve_the_sample() {
 
 #[test]
 fn serve_odd_rows() {
-    let book = base();
+    let book = p5();
     let head = book.book().head();
     let mut store = Store::of(book.book(), 4);
     let untouched = store.clone();

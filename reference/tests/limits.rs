@@ -2,15 +2,13 @@
 
 mod common;
 
-use common::{joined, number, r, rows, set, u};
+use common::{joined, number, r, rows, set, u, ALL};
 use fenstubble_reference::book::{Mode, SoundBook};
 use fenstubble_reference::generate::Random;
 use fenstubble_reference::lent::{self, Store};
 use fenstubble_reference::requests::{cover, Request};
 use fenstubble_reference::sets::UserSet;
 use fenstubble_reference::sound::sound;
-
-const ALL: usize = usize::MAX;
 
 /// A random set of so many of 64 users.
 fn of_size(random: &mut Random, size: u32) -> UserSet {
@@ -244,19 +242,20 @@ fn longest_chain() {
 #[test]
 fn many_neighbours() {
     // 256 folders of users 0 to 62 in delta mode; user 63 is granted the
-    // last. One token, one new outer vertex with 63 tokens, and each of the
-    // 255 neighbours locked with it, in ascending order.
+    // last. One new outer vertex with 63 tokens, each of the 255 neighbours
+    // locked with it, in ascending order, and then the one inner token.
     let mut book = joined(Mode::Delta, 64);
     for _ in 0..256 {
         book.insert(UserSet::first(63), ALL).unwrap();
     }
     assert_eq!(number(book.grant(r(255), u(63), 319)), 10);
     let orders = rows(book.grant(r(255), u(63), 320));
-    assert_eq!(orders[..2], [[6, 63, 64], [1, 64, 0]]);
+    assert_eq!(orders[0], [1, 64, 0]);
     let tokens: Vec<_> = (0..63).map(|user| [2, user, 64]).collect();
-    assert_eq!(orders[2..65], tokens);
+    assert_eq!(orders[1..64], tokens);
     let locks: Vec<_> = (0..255).map(|place| [3, place, 64]).collect();
-    assert_eq!(orders[65..], locks);
+    assert_eq!(orders[64..319], locks);
+    assert_eq!(orders[319..], [[6, 63, 64]]);
     // Granting the rest one by one unlocks each.
     for place in 0..255 {
         assert_eq!(rows(book.grant(r(place), u(63), 1)), [[3, place, 65535]]);

@@ -3,15 +3,14 @@
 
 mod common;
 
-use common::{joined, r, set, u};
-use fenstubble_reference::book::{Book, InnerToken, Mode, OuterToken, ResourceRow};
+use common::{inner, joined, outer, p5, resource, set, ALL};
+use fenstubble_reference::book::{Book, Mode};
 use fenstubble_reference::bytes;
 use fenstubble_reference::lent::{self, Store};
-use fenstubble_reference::numbers::{InnerVertex, OuterVertex};
+use fenstubble_reference::numbers::OuterVertex;
 use fenstubble_reference::refusal::Refusal;
 use fenstubble_reference::sets::UserSet;
 
-const ALL: usize = usize::MAX;
 /// The place of a missing vertex.
 const MISSING: usize = 65535;
 
@@ -213,19 +212,10 @@ fn lengths_as_they_are() {
     assert_eq!(told(&changed(&EXAMPLE, &[(51, 2)])), (32, 65535));
 }
 
-/// P1 to P5. Inner vertices {0}, {1}, {2}, {0,1}; tokens 0 to 3, 1 to 3, and
-/// 2 to 3 of kind 1. Outer vertices {0}, {1}, {2}, {0,1}, {0,2}; tokens 0 and
-/// 1 to 3, 0 and 2 to 4. Resource 0 has list {0,2}, keys 3 and 4; resource 1
-/// has {0,1}, 3 and 3. So the rows start at
-/// 17, 25, 33, 41; 49, 54, 59; 64, 72, 80, 88, 96; 104, 108, 112, 116; 120,
-/// 132, and there are 144 bytes.
+/// P1 to P5: the rows start at 17, 25, 33, 41; 49, 54, 59; 64, 72, 80, 88, 96;
+/// 104, 108, 112, 116; 120, 132, and there are 144 bytes.
 fn base() -> Book {
-    let mut book = joined(Mode::Delta, 3);
-    book.insert(set(&[0, 1]), ALL).unwrap();
-    book.insert(set(&[0, 1]), ALL).unwrap();
-    book.grant(r(0), u(2), ALL).unwrap();
-    book.revoke(r(0), u(1), ALL).unwrap();
-    book.into_book()
+    p5().into_book()
 }
 
 /// What is told of the base with a change.
@@ -233,29 +223,6 @@ fn after(change: impl FnOnce(&mut Book)) -> (u8, usize) {
     let mut book = base();
     change(&mut book);
     told(&bytes::write(&book))
-}
-
-fn inner(from: u16, to: u16, kind: u8) -> InnerToken {
-    InnerToken {
-        from: InnerVertex(from),
-        to: InnerVertex(to),
-        kind,
-    }
-}
-
-fn outer(from: u16, to: u16) -> OuterToken {
-    OuterToken {
-        from: OuterVertex(from),
-        to: OuterVertex(to),
-    }
-}
-
-fn resource(list: &[u16], inner: u16, outer: Option<u16>) -> ResourceRow {
-    ResourceRow {
-        list: set(list),
-        inner: InnerVertex(inner),
-        outer: outer.map(OuterVertex),
-    }
 }
 
 /// A change of a book.

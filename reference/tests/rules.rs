@@ -2,57 +2,19 @@
 
 mod common;
 
-use common::{joined, r, set, u};
-use fenstubble_reference::book::{Book, InnerToken, Mode, OuterToken, ResourceRow, SoundBook};
+use common::{inner, joined, outer, p5, resource, set};
+use fenstubble_reference::book::{Book, Mode, SoundBook};
 use fenstubble_reference::bytes;
 use fenstubble_reference::lent::{self, Store};
-use fenstubble_reference::numbers::{InnerVertex, OuterVertex};
+use fenstubble_reference::numbers::OuterVertex;
 use fenstubble_reference::sets::UserSet;
 use fenstubble_reference::sound::{broken_rules, possible, sound, Rule};
-
-const ALL: usize = usize::MAX;
-
-/// P1 to P5. Inner vertices {0}, {1}, {2}, {0,1}; tokens 0 to 3, 1 to 3, and
-/// 2 to 3 of kind 1. Outer vertices {0}, {1}, {2}, {0,1}, {0,2}; tokens 0 and
-/// 1 to 3, 0 and 2 to 4. Resource 0 has list {0,2}, keys 3 and 4; resource 1
-/// has {0,1}, 3 and 3.
-fn base() -> Book {
-    let mut book = joined(Mode::Delta, 3);
-    book.insert(set(&[0, 1]), ALL).unwrap();
-    book.insert(set(&[0, 1]), ALL).unwrap();
-    book.grant(r(0), u(2), ALL).unwrap();
-    book.revoke(r(0), u(1), ALL).unwrap();
-    book.into_book()
-}
-
-fn inner(from: u16, to: u16, kind: u8) -> InnerToken {
-    InnerToken {
-        from: InnerVertex(from),
-        to: InnerVertex(to),
-        kind,
-    }
-}
-
-fn outer(from: u16, to: u16) -> OuterToken {
-    OuterToken {
-        from: OuterVertex(from),
-        to: OuterVertex(to),
-    }
-}
-
-fn resource(list: &[u16], inner: u16, outer: Option<u16>) -> ResourceRow {
-    ResourceRow {
-        list: set(list),
-        inner: InnerVertex(inner),
-        outer: outer.map(OuterVertex),
-    }
-}
 
 /// The change breaks these rules and no others; the first is named, also by
 /// the lent face, and told of the bytes, unless their mode or counts come
 /// before.
 fn breaks(what: &str, rules: &[Rule], change: impl FnOnce(&mut Book)) {
-    let mut book = base();
+    let mut book = p5().into_book();
     assert_eq!(sound(&book), Ok(()));
     change(&mut book);
     assert_eq!(broken_rules(&book), rules, "{what}");
@@ -75,7 +37,7 @@ fn breaks(what: &str, rules: &[Rule], change: impl FnOnce(&mut Book)) {
 
 /// The change leaves a sound book.
 fn keeps(what: &str, change: impl FnOnce(&mut Book)) {
-    let mut book = base();
+    let mut book = p5().into_book();
     change(&mut book);
     assert_eq!(sound(&book), Ok(()), "{what}");
     assert_eq!(broken_rules(&book), [], "{what}");

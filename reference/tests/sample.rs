@@ -2,15 +2,13 @@
 
 mod common;
 
-use common::{joined, number, output, r, rows, script, set, u};
+use common::{joined, number, output, r, rows, script, set, u, ALL};
 use fenstubble_reference::book::{Book, Mode, SoundBook};
 use fenstubble_reference::bytes;
 use fenstubble_reference::lent::{self, Store};
 use fenstubble_reference::refusal::View;
 use fenstubble_reference::requests::cover;
 use fenstubble_reference::sets::UserSet;
-
-const ALL: usize = usize::MAX;
 
 #[test]
 fn sample_transcript() {
@@ -47,7 +45,7 @@ fn p1_to_p8_one_delta_run() {
     assert_eq!(rows(book.insert(list, ALL)), [[7, 1, 3]]);
     // P3, P4
     let p3 = rows(book.grant(r(0), u(2), ALL));
-    assert_eq!(p3, [[6, 2, 3], [1, 3, 0], [2, 0, 3], [2, 1, 3], [3, 1, 3]]);
+    assert_eq!(p3, [[1, 3, 0], [2, 0, 3], [2, 1, 3], [3, 1, 3], [6, 2, 3]]);
     assert_eq!(book.view(u(2), r(1)), Ok(View::SelLocked));
     assert_eq!(View::SelLocked.number(), 1);
     // P5, P6
@@ -69,8 +67,8 @@ fn p9_p10_full() {
         &[
             ("join", "4 0 0; 1 0 0"),
             ("join", "4 1 0; 1 1 0"),
-            ("insert 0", "7 0 0; 3 0 0"),
-            ("grant 0 1", "6 1 0; 1 2 0; 2 0 2; 2 1 2; 3 0 2"),
+            ("insert 0", "3 0 0; 7 0 0"),
+            ("grant 0 1", "1 2 0; 2 0 2; 2 1 2; 3 0 2; 6 1 0"),
         ],
     );
 }
@@ -116,7 +114,7 @@ fn user_63_joins_and_the_65th_is_2() {
         assert_eq!(book, before);
         // User 63 is a user like any other.
         let orders = rows(book.insert(set(&[63]), ALL));
-        assert_eq!(orders[0], [7, 0, 63]);
+        assert_eq!(orders.last(), Some(&[7, 0, 63]));
     }
 }
 
@@ -127,7 +125,8 @@ fn resource_255_then_3() {
         for _ in 0..255 {
             book.insert(set(&[0]), ALL).unwrap();
         }
-        assert_eq!(rows(book.insert(set(&[1]), ALL))[0], [7, 255, 1]);
+        let orders = rows(book.insert(set(&[1]), ALL));
+        assert_eq!(orders.last(), Some(&[7, 255, 1]));
         let before = book.clone();
         assert_eq!(number(book.insert(set(&[1]), ALL)), 3);
         // 1 and 4 stand above 3.
@@ -254,9 +253,9 @@ fn c5_insert_on_a_vertex_with_kind_1_tokens() {
             ("join", "4 2 0; 1 2 0"),
             ("insert 0 1", "4 3 0; 5 0 3; 5 1 3; 7 0 3"),
             ("insert 0 1", "7 1 3"),
-            ("grant 0 2", "6 2 3; 1 3 0; 2 0 3; 2 1 3; 3 1 3"),
+            ("grant 0 2", "1 3 0; 2 0 3; 2 1 3; 3 1 3; 6 2 3"),
             // Holders {0,1,2}, list {0,1}: locked with outer vertex 3.
-            ("insert 0 1", "7 2 3; 3 2 3"),
+            ("insert 0 1", "3 2 3; 7 2 3"),
             ("open 0 2", "i 0; o 0"),
             ("open 2 2", "no 11 1"),
             // A list of all holders is another vertex: {0,1} and own 2.
@@ -282,7 +281,7 @@ fn b16_without_an_outer_key_the_outer_layer_is_known() {
         &[
             ("join", "4 0 0; 1 0 0"),
             ("join", "4 1 0; 1 1 0"),
-            ("insert 0", "7 0 0; 3 0 0"),
+            ("insert 0", "3 0 0; 7 0 0"),
             ("open 1 0", "no 11 3"),
             ("open 0 0", "ok"),
         ],

@@ -36,19 +36,20 @@ fn delta() {
         ("insert 0 1 2 4", "4 7 0; 5 6 7; 5 4 7; 7 7 7"),
         // Before the changes: A opens r8 over 0 to 6 (row 2), 6 to 7 (row 5).
         ("open 0 7", "i 2; i 5"),
-        // grant(r5, D): D gets a token to 6's access key. The holders are now
+        // grant(r5, D): with a token for D to 6's access key the holders are
         // {A,B,C,D}; r6 and r7, still for {A,B,C}, are locked with the new
-        // outer vertex 5. r5's list is the holders: nothing to unlock.
+        // outer vertex 5. r5's list is the holders: nothing to unlock. Then
+        // the token goes up.
         (
             "grant 4 3",
-            "6 3 6; 1 5 0; 2 0 5; 2 1 5; 2 2 5; 3 5 5; 3 6 5",
+            "1 5 0; 2 0 5; 2 1 5; 2 2 5; 3 5 5; 3 6 5; 6 3 6",
         ),
         // revoke(r2, C): the empty list; a vertex without tokens.
         ("revoke 1 2", "1 6 0; 3 1 6"),
-        // grant(r4, E): a token to 5's access key; r3, for {C,D}, is locked
-        // with the new outer vertex 7, into which the own vertices of C and
-        // D lead (the empty vertex 6 has no user). r4 needs no lock.
-        ("grant 3 4", "6 4 5; 1 7 0; 2 2 7; 2 3 7; 3 2 7"),
+        // grant(r4, E): r3, for {C,D}, is locked with the new outer vertex 7,
+        // into which the own vertices of C and D lead (the empty vertex 6 has
+        // no user). r4 needs no lock. Then the token to 5's access key.
+        ("grant 3 4", "1 7 0; 2 2 7; 2 3 7; 3 2 7; 6 4 5"),
         // grant(r6, D): D holds 6 already. r5's list is the holders; r7 is
         // locked for {A,B,C} already. r6's list is now the holders: unlocked.
         ("grant 5 3", "3 5 65535"),
@@ -75,32 +76,32 @@ fn full() {
     steps.extend([
         // Every resource is locked for its list as well; the outer layer
         // grows along with the inner one and has the same numbers.
-        ("insert 2", "7 0 2; 3 0 2"),
-        ("insert 2", "7 1 2; 3 1 2"),
+        ("insert 2", "3 0 2; 7 0 2"),
+        ("insert 2", "3 1 2; 7 1 2"),
         (
             "insert 2 3",
-            "4 5 0; 5 2 5; 5 3 5; 7 2 5; 1 5 0; 2 2 5; 2 3 5; 3 2 5",
+            "4 5 0; 5 2 5; 5 3 5; 1 5 0; 2 2 5; 2 3 5; 3 2 5; 7 2 5",
         ),
-        ("insert 2 3", "7 3 5; 3 3 5"),
+        ("insert 2 3", "3 3 5; 7 3 5"),
         (
             "insert 0 1 2",
-            "4 6 0; 5 0 6; 5 1 6; 5 2 6; 7 4 6; 1 6 0; 2 0 6; 2 1 6; 2 2 6; 3 4 6",
+            "4 6 0; 5 0 6; 5 1 6; 5 2 6; 1 6 0; 2 0 6; 2 1 6; 2 2 6; 3 4 6; 7 4 6",
         ),
-        ("insert 0 1 2", "7 5 6; 3 5 6"),
-        ("insert 0 1 2", "7 6 6; 3 6 6"),
+        ("insert 0 1 2", "3 5 6; 7 5 6"),
+        ("insert 0 1 2", "3 6 6; 7 6 6"),
         (
             "insert 0 1 2 4",
-            "4 7 0; 5 6 7; 5 4 7; 7 7 7; 1 7 0; 2 6 7; 2 4 7; 3 7 7",
+            "4 7 0; 5 6 7; 5 4 7; 1 7 0; 2 6 7; 2 4 7; 3 7 7; 7 7 7",
         ),
-        // grant(r5, D): the token; r6 and r7 are locked for {A,B,C} already.
-        // r5 for {A,B,C,D}: new outer vertex 8 from {A,B,C} (6), then {C,D}
-        // (5), whose D is not yet covered.
-        ("grant 4 3", "6 3 6; 1 8 0; 2 6 8; 2 5 8; 3 4 8"),
+        // grant(r5, D): r6 and r7 are locked for {A,B,C} already. r5 for
+        // {A,B,C,D}: new outer vertex 8 from {A,B,C} (6), then {C,D} (5),
+        // whose D is not yet covered. Then the token.
+        ("grant 4 3", "1 8 0; 2 6 8; 2 5 8; 3 4 8; 6 3 6"),
         // revoke(r2, C): the empty outer vertex 9.
         ("revoke 1 2", "1 9 0; 3 1 9"),
         // grant(r4, E): r3 is locked for {C,D} already. r4 for {C,D,E}: new
         // outer vertex 10 from {C,D} (5) and E's own.
-        ("grant 3 4", "6 4 5; 1 10 0; 2 5 10; 2 4 10; 3 3 10"),
+        ("grant 3 4", "1 10 0; 2 5 10; 2 4 10; 3 3 10; 6 4 5"),
         // grant(r6, D): nothing inner; r6 for {A,B,C,D}: outer vertex 8.
         ("grant 5 3", "3 5 8"),
         // D opens r5: inner row 7 is the kind 1 row; outer rows: 0 1 into 5,

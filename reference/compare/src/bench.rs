@@ -371,7 +371,7 @@ pub fn script() -> String {
     for _ in 1..LINES {
         let request = match book.book().users {
             0..8 => Request::Join,
-            _ => generate::request(random, book.book(), 8),
+            _ => generate::plain_request(random, book.book(), 8),
         };
         let _ = book.answer(&request, usize::MAX);
         let _ = writeln!(text, "{request}");

@@ -14,6 +14,7 @@
 //! | [`shrink`] | smaller cases that still differ |
 //! | [`report`] | a difference with its seed and smallest case; bounded runs |
 //! | [`books`] | check, section, read and write |
+//! | [`locks`] | answers that show in which order the orders stand |
 //! | [`requests`] | join, insert, grant, revoke, view and open; serve |
 //! | [`process`] | a program of the engine as a process |
 //! | [`lines`] | lines of scripts, fine and malformed |
@@ -40,6 +41,7 @@ pub mod engine;
 pub mod inspections;
 pub mod limits;
 pub mod lines;
+pub mod locks;
 pub mod memory;
 pub mod model;
 pub mod process;

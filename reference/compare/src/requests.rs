@@ -15,6 +15,7 @@ use fenstubble_reference::sets::UserSet;
 use crate::books::{longer, resize, sample, shorter, some_book};
 use crate::compare::{Difference, Done, Tally};
 use crate::limits::{self, of_size, Counts};
+use crate::locks::Locks;
 use crate::memory::{Filler, Lent, Memory};
 use crate::report::{random_of, Bounds, Report, Session};
 use crate::shrink::Case;
@@ -30,6 +31,8 @@ pub struct Summary {
     pub tally: Tally,
     /// Most orders of one request.
     pub most_orders: u16,
+    /// Answers that lock something first.
+    pub locks: Locks,
     /// Longest chains of one open, inner and outer.
     pub longest: [u16; 2],
     /// Requests that were served several in one call, by the number of the
@@ -51,6 +54,7 @@ impl fmt::Display for Summary {
             "most orders of one request {}, longest chains {} inner and {} outer rows",
             self.most_orders, self.longest[0], self.longest[1]
         )?;
+        writeln!(f, "{}", self.locks)?;
         if self.tally.calls_of("serve") > 0 {
             writeln!(f, "served in one call, by answer: {:?}", self.served)?;
         }
@@ -149,6 +153,11 @@ impl Requests {
         match done.answer {
             Ok(Given::Orders(rows)) => {
                 self.summary.most_orders = self.summary.most_orders.max(rows);
+                let (orders, _) = done.lent.list.content().as_chunks();
+                let delta = world.book.mode() == Mode::Delta;
+                self.summary
+                    .locks
+                    .count(delta, &orders[..usize::from(rows)]);
             }
             Ok(Given::Chains(inner, outer)) => {
                 let [a, b] = self.summary.longest;

@@ -16,6 +16,7 @@ use crate::limits::of_size;
 use crate::lines::{
     firsts_of, lines_of, FIRSTS, GAPS, LASTS, LENGTHS, LISTS, NUMBERS, REQUESTS, RESTS, WORDS,
 };
+use crate::locks::Locks;
 use crate::process::Process;
 use crate::report::{random_of, Bounds, Report};
 use crate::script::{difference, kind, shown, smallest, Difference, Script};
@@ -34,6 +35,8 @@ pub struct Summary {
     pub answers: BTreeMap<String, usize>,
     /// Most rows of one answer.
     pub most_rows: usize,
+    /// Answers that lock something first.
+    pub locks: Locks,
 }
 
 impl Summary {
@@ -61,7 +64,8 @@ impl fmt::Display for Summary {
             .iter()
             .map(|(answer, count)| format!("{answer}: {count}"))
             .collect();
-        writeln!(f, "{}; most rows {}", answers.join(", "), self.most_rows)
+        writeln!(f, "{}; most rows {}", answers.join(", "), self.most_rows)?;
+        writeln!(f, "{}", self.locks)
     }
 }
 
@@ -242,15 +246,18 @@ impl Scripts {
         self.summary.lines += script.lines.len();
         self.summary.bytes[0] += script.input().len();
         self.summary.bytes[1] += expected.len();
-        for line in expected.split(|&byte| byte == b'\n') {
-            let answer = kind(Some(line));
-            if let Some(rows) = line.strip_prefix(b"ok ") {
-                let rows = String::from_utf8_lossy(rows).parse().unwrap_or(0);
+        let delta = script.lines.first().is_some_and(|line| line == b"delta");
+        let expected = String::from_utf8_lossy(&expected);
+        let mut lines = expected.lines();
+        while let Some(line) = lines.next() {
+            let answer = kind(Some(line.as_bytes()));
+            if let Some(rows) = line.strip_prefix("ok ") {
+                let rows = rows.parse().unwrap_or(0);
                 self.summary.most_rows = self.summary.most_rows.max(rows);
+                let orders: Vec<[u16; 3]> = lines.by_ref().take(rows).filter_map(order).collect();
+                self.summary.locks.count(delta, &orders);
             }
-            if answer.starts_with("no ") || answer == "ok" {
-                *self.summary.answers.entry(answer).or_default() += 1;
-            }
+            *self.summary.answers.entry(answer).or_default() += 1;
         }
         Ok(())
     }
@@ -573,6 +580,12 @@ impl Scripts {
         script.ended = random.chance(1, 2);
         self.compare(random, &script)
     }
+}
+
+/// The line as an order; the row of an open is none.
+fn order(line: &str) -> Option<[u16; 3]> {
+    let mut numbers = line.split(' ').map(|word| word.parse().ok());
+    Some([numbers.next()??, numbers.next()??, numbers.next()??])
 }
 
 /// The request that changes whether folder 0, with that list, is the user's.

@@ -49,6 +49,12 @@ pub enum Fault {
     PastTheRows,
     /// A grant leaves the last row of the orders wrong.
     LastRow,
+    /// A grant's token goes up before anything is locked.
+    PublishedFirst,
+    /// A grant locks its own folder before the neighbours.
+    OwnLockFirst,
+    /// An insert's folder is encrypted before it is locked.
+    EncryptedFirst,
     /// A revoke leaves the head as it was.
     HeadKept,
     /// 11 comes without its view.
@@ -413,7 +419,34 @@ fn ordered(call: Call, lent: &mut Lending, count: &mut u16) -> u16 {
             *number = 0;
         }
     }
+    if code == 0 {
+        let (orders, _) = lent.list.as_chunks_mut();
+        misplace_orders(call, &mut orders[..rows]);
+    }
     code
+}
+
+/// Puts the orders as the fault that is planted has them.
+fn misplace_orders(call: Call, orders: &mut [[u16; 3]]) {
+    match (FAULT.get(), call) {
+        (Fault::PublishedFirst, Call::Grant(..)) => orders.sort_by_key(|row| row[0] != 6),
+        (Fault::OwnLockFirst, Call::Grant(r, _)) => {
+            let lock = orders.iter().position(|row| row[..2] == [3, r]);
+            let others = |row: &[u16; 3]| row[0] == 3 && row[1] != r;
+            if let (Some(lock), Some(last)) = (lock, orders.iter().rposition(others)) {
+                orders[..=lock].rotate_left(last + 1);
+            }
+        }
+        (Fault::EncryptedFirst, Call::Insert(..)) => {
+            // Behind the inner vertex and its tokens.
+            orders.sort_by_key(|row| match row[0] {
+                4 | 5 => 0,
+                7 => 1,
+                _ => 2,
+            });
+        }
+        _ => {}
+    }
 }
 
 with_tables! {

@@ -180,6 +180,9 @@ mod requests {
             (Fault::WrongCount, "", "engine Orders("),
             (Fault::PastTheRows, "", "the list at"),
             (Fault::LastRow, "grant", "the list at"),
+            (Fault::PublishedFirst, "grant", "the list at 0: engine 6"),
+            (Fault::OwnLockFirst, "grant", "the list at"),
+            (Fault::EncryptedFirst, "insert", "engine 7, model"),
             (Fault::HeadKept, "revoke", "the head at"),
             (
                 Fault::ViewLost,

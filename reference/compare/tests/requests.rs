@@ -48,4 +48,7 @@ fn requests_alike() {
     assert!(lists.iter().all(|&count| count > 100), "{summary}");
     assert_eq!(summary.longest, [63, 63]);
     assert!(summary.most_orders >= 324, "{summary}");
+    // And the order of the orders shows.
+    assert!(summary.locks.grants > 100, "{summary}");
+    assert!(summary.locks.inserts > 100, "{summary}");
 }

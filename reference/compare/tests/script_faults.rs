@@ -71,6 +71,11 @@ fn faults_in_numbers_and_answers() {
             "o-for-i",
             "'delta\\njoin\\njoin\\ninsert 0 1\\nopen 0 0\\n'",
         ),
+        (
+            "token-first",
+            "'delta\\njoin\\njoin\\ninsert 0\\ninsert 0\\ngrant 0 1\\n'",
+        ),
+        ("folder-first", "'full\\njoin\\ninsert 0\\n'"),
         ("few-order-rows", "engine `no 10\\n`, reference `ok 320\\n`"),
         ("status-3", "it ended with exit status: 3"),
         ("aborts", "it ended with signal: 6"),

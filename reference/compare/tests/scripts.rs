@@ -18,4 +18,7 @@ fn scripts_alike() {
     // It was no empty comparison.
     assert_eq!(summary.missing(), [""; 0]);
     assert!(summary.most_rows >= 320, "{summary}");
+    // And the order of the orders shows.
+    assert!(summary.locks.grants > 50, "{summary}");
+    assert!(summary.locks.inserts > 50, "{summary}");
 }

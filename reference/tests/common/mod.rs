@@ -1,12 +1,16 @@
 //! What several tests use.
 #![allow(dead_code)]
 
-use fenstubble_reference::book::{Mode, SoundBook};
-use fenstubble_reference::numbers::{Resource, User};
+use fenstubble_reference::book::{InnerToken, Mode, OuterToken, ResourceRow, SoundBook};
+use fenstubble_reference::host::Host;
+use fenstubble_reference::numbers::{InnerVertex, OuterVertex, Resource, User};
 use fenstubble_reference::program;
 use fenstubble_reference::refusal::Refusal;
 use fenstubble_reference::requests::Order;
 use fenstubble_reference::sets::UserSet;
+
+/// Room for every order.
+pub const ALL: usize = usize::MAX;
 
 /// The program's output for an input.
 pub fn output(input: impl AsRef<[u8]>) -> String {
@@ -50,6 +54,53 @@ pub fn joined(mode: Mode, users: usize) -> SoundBook {
     book
 }
 
+/// P1 and P2: users 0 to 2, and two folders of {0,1}. Inner vertices {0}, {1},
+/// {2}, {0,1}, with tokens 0 to 3 and 1 to 3; outer vertices {0}, {1}, {2};
+/// no locks.
+pub fn p2() -> SoundBook {
+    let mut book = joined(Mode::Delta, 3);
+    book.insert(set(&[0, 1]), ALL).unwrap();
+    book.insert(set(&[0, 1]), ALL).unwrap();
+    book
+}
+
+/// P1 to P5. Inner vertices {0}, {1}, {2}, {0,1}; tokens 0 to 3, 1 to 3, and
+/// 2 to 3 of kind 1. Outer vertices {0}, {1}, {2}, {0,1}, {0,2}; tokens 0 and
+/// 1 to 3, 0 and 2 to 4. Resource 0 has list {0,2}, keys 3 and 4; resource 1
+/// has {0,1}, 3 and 3.
+pub fn p5() -> SoundBook {
+    let mut book = p2();
+    book.grant(r(0), u(2), ALL).unwrap();
+    book.revoke(r(0), u(1), ALL).unwrap();
+    book
+}
+
+/// A row of the inner tokens.
+pub fn inner(from: u16, to: u16, kind: u8) -> InnerToken {
+    InnerToken {
+        from: InnerVertex(from),
+        to: InnerVertex(to),
+        kind,
+    }
+}
+
+/// A row of the outer tokens.
+pub fn outer(from: u16, to: u16) -> OuterToken {
+    OuterToken {
+        from: OuterVertex(from),
+        to: OuterVertex(to),
+    }
+}
+
+/// A row of the resources.
+pub fn resource(list: &[u16], inner: u16, outer: Option<u16>) -> ResourceRow {
+    ResourceRow {
+        list: set(list),
+        inner: InnerVertex(inner),
+        outer: outer.map(OuterVertex),
+    }
+}
+
 /// A set of users.
 pub fn set(users: &[u16]) -> UserSet {
     users.iter().map(|&user| User(user)).collect()
@@ -63,6 +114,12 @@ pub fn u(number: u16) -> User {
 /// A resource.
 pub fn r(number: u16) -> Resource {
     Resource(number)
+}
+
+/// Who of so many users opens the folder at the host.
+pub fn readers(host: &Host, users: u16, folder: usize) -> UserSet {
+    let opens = |user: &User| host.opens(&host.derive(*user), folder);
+    UserSet::first(users).users().filter(opens).collect()
 }
 
 /// Orders as rows.

@@ -109,6 +109,23 @@ fn misread(fault: &str, input: Vec<u8>) -> Vec<u8> {
     }
 }
 
+/// The output with the rows of each answer put otherwise.
+fn answers(text: &str, put: impl Fn(&mut [&str])) -> Vec<u8> {
+    let mut lines: Vec<&str> = text.lines().collect();
+    let mut at = 0;
+    while let Some(line) = lines.get(at) {
+        let count = line.strip_prefix("ok ").unwrap_or("0");
+        let end = at + 1 + count.parse().unwrap_or(0);
+        put(&mut lines[at + 1..end]);
+        at = end;
+    }
+    lines
+        .iter()
+        .flat_map(|line| [line, "\n"])
+        .collect::<String>()
+        .into()
+}
+
 /// What the program with that fault writes for its output.
 fn miswritten(fault: &str, output: Vec<u8>) -> Vec<u8> {
     let text = String::from_utf8_lossy(&output);
@@ -128,6 +145,14 @@ fn miswritten(fault: &str, output: Vec<u8>) -> Vec<u8> {
         "no-last-newline" => text.trim_end().into(),
         "nothing-for-nothing" if output == b"no 14\n" => Vec::new(),
         "o-for-i" => text.replace("i ", "o ").into(),
+        "token-first" => answers(&text, |rows| rows.sort_by_key(|row| !row.starts_with("6 "))),
+        "folder-first" => answers(&text, |rows| {
+            rows.sort_by_key(|row| match row.as_bytes()[0] {
+                b'4' | b'5' => 0,
+                b'7' => 1,
+                _ => 2,
+            });
+        }),
         // As a list of 319 rows would have it.
         "few-order-rows" => match text.find("ok 320\n") {
             Some(at) => [&output[..at], b"no 10\n"].concat(),
