@@ -340,7 +340,7 @@ with_tables! {
 
 #[no_mangle]
 extern "C" fn fenstubble_version() -> u32 {
-    20000
+    30000
 }
 
 #[no_mangle]
