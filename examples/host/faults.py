@@ -21,7 +21,7 @@ class EarlyHost(Host):
             self.obey(order, Pending(word, number, orders))
             self.disk.stop("obeyed", self.root)
         self.keep(book, None)
-        self.owner.clear_stages()
+        self.clear()
         return number
 
 
