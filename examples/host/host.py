@@ -270,8 +270,11 @@ class Storage:
 
     def take(self, bare: Locked) -> None:
         """A new folder, as the owner has encrypted it. The lock that waits for it is put on before it is stored: it is never there without."""
-        waits = self.waiting / str(bare.folder)
-        self.put(self.around(bare, outer_from(waits.read_bytes()) if waits.exists() else None))
+        self.put(self.around(bare, self.waits(bare.folder)))
+
+    def waits(self, folder: int) -> Optional[int]:
+        file = self.waiting / str(folder)
+        return outer_from(file.read_bytes()) if file.exists() else None
 
     def around(self, bare: Locked, outer: Optional[int]) -> Locked:
         return bare if outer is None else bare.with_outer(outer, self.keys.key(outer))
