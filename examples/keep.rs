@@ -247,7 +247,8 @@ impl Book {
     }
 }
 
-/// What an order asks of the host.
+/// What an order asks of the host. In an insert the lock comes before its
+/// folder: keep.c.
 fn obey(order: [u16; 3]) -> Result<(), String> {
     match order {
         [1, v, _] => println!("  make outer key {v}"),
