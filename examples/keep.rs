@@ -45,7 +45,7 @@ calls! {
 }
 
 // The header's numbers, without their FENSTUBBLE_.
-const VERSION: u32 = 20000;
+const VERSION: u32 = 30000;
 const HEAD_LEN: usize = 7;
 const INNER_VERTICES_BYTES: usize = 320 * 8;
 const INNER_TOKENS_BYTES: usize = 4096 * 5;
