@@ -276,6 +276,12 @@ class Storage:
         file = self.waiting / str(folder)
         return outer_from(file.read_bytes()) if file.exists() else None
 
+    def check_arrived(self) -> None:
+        """A lock that waits for a folder when all orders are obeyed: the folder was lost."""
+        for file in self.waiting.iterdir():
+            if not self.has(int(file.name)):
+                raise Damaged(f"folder {file.name} is not in the storage")
+
     def around(self, bare: Locked, outer: Optional[int]) -> Locked:
         return bare if outer is None else bare.with_outer(outer, self.keys.key(outer))
 
@@ -459,6 +465,7 @@ class Host:
             for order in self.pending.orders:
                 self.obey(order, self.pending)
                 self.disk.stop("obeyed", self.root)
+            self.storage.check_arrived()
             self.keep(self.book, None)
         self.clear()
 

@@ -241,6 +241,19 @@ class Hosts(Case):
                 self.assertEqual(host.read(1, 2), b"more")
         self.assertEqual(self.everybody(), [{0, 1}, {1, 2}, {1, 2}])
 
+    def test_folder_lost(self) -> None:
+        """A lock for a folder that is lost is not forgotten: once the folder is brought back, as it was, it gets the lock."""
+        there = self.file(0).read_bytes()
+        self.file(0).unlink()
+        with Host(self.root) as host:
+            self.assertRaises(Damaged, host.revoke, 0, 1)
+        self.assertRaises(Damaged, Host, self.root)
+        self.file(0).write_bytes(there)
+        with Host(self.root) as host:
+            self.assertEqual(host.read(0, 0), TEXTS[0])
+        self.assertEqual(self.everybody(), [{0, 1}, {1}, {1}])
+        self.assertEqual(list((self.root / "storage" / "waiting").iterdir()), [])
+
     def test_handed_key_damaged(self) -> None:
         for layer in ("inner", "outer"):
             file = self.root / "people" / "0" / layer
