@@ -78,18 +78,21 @@
  *   grant    for the other folders that its token would open 1, the 2s, a 3 for each; for the folder itself 1, the 2s, 3; 6
  *   revoke   1, the 2s, 3
  *
- * A HOST THAT STOPS in the middle of a request, behind any of its orders, has let nobody in (RULES 6.6): every other encrypted folder opens for exactly
- * its list, and the folder that the request names for all who are on its list both before and after the request, and for nobody who is on neither. A
- * new folder counts once it is encrypted. So a host may rely on the order of the rows alone, and must not change it.
- *   - The new book and its orders are kept together, in one step (one file replaced, one transaction), before the first order is obeyed. A host that
- *     was stopped obeys them all again, from the first. What an order asks for and is there already stays as it is: a key, a token, a lock, a folder.
- *     Then the same holds on the way, also if it stops again, and at the end the host has what the new book says (RULES 6.7).
- *   - An insert asks for the lock of its folder before the folder is there: 3, then 7. The host keeps the lock in mind, and at the 7 it stores the
- *     folder with it, in one step: encrypted and locked, never first the one and then the other.
  *   - A new user's number is head[FENSTUBBLE_HEAD_USERS] before the join, which is the number of users less 1 after it. A new folder's is
  *     head[FENSTUBBLE_HEAD_RESOURCES] before the insert, the number of folders less 1 after it.
  *   - A join has two orders, 4 and 1. The keys that they make are the new user's own, to be handed to that user. No other request makes a user's own
  *     vertex, and nobody is handed the keys of the others.
+ *
+ * A HOST THAT STOPS in the middle of a request, behind any of its orders, has let nobody in (RULES 6.6): every other encrypted folder opens for exactly
+ * its list, and the folder that the request names for all who are on its list both before and after the request, and for nobody who is on neither. A
+ * new folder counts once it is encrypted. This rests on the order of the rows, and on the host:
+ *   - The new book and its orders are kept together, in one step (one file replaced, one transaction), before the first order is obeyed. A host that
+ *     was stopped obeys them all again, from the first. What an order asks for and is there already stays as it is: a key, a token, a lock, a folder.
+ *     Then the same holds on the way, also if it stops again, and at the end the host has what the new book says (RULES 6.7).
+ *   - Each order is obeyed as a whole or not at all. A 3 exchanges one lock for another in one step: while the old one is off and the new one is not on
+ *     yet, the folder would be open to all who have its inner key.
+ *   - An insert asks for the lock of its folder before the folder is there: 3, then 7. The host keeps the lock in mind, and at the 7 it stores the
+ *     folder with it, in one step: encrypted and locked, never first the one and then the other.
  *
  * LENDING. A pointer is followed by its length: in bytes for a table, a set, a book or a buffer, in numbers (not in rows) for the
  * rest: a head, orders, requests, answers, the list of an open.
