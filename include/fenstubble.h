@@ -83,9 +83,9 @@
  *   - A join has two orders, 4 and 1. The keys that they make are the new user's own, to be handed to that user. No other request makes a user's own
  *     vertex, and nobody is handed the keys of the others.
  *
- * A HOST THAT STOPS in the middle of a request, behind any of its orders, has let nobody in (RULES 6.6): every other encrypted folder opens for exactly
+ * A HOST THAT STOPS in the middle of a request, behind any of its orders, has let nobody in. Proved: every other encrypted folder opens for exactly
  * its list, and the folder that the request names for all who are on its list both before and after the request, and for nobody who is on neither. A
- * new folder counts once it is encrypted. This rests on the order of the rows, and on the host:
+ * new folder counts once it is encrypted (RULES 6.6). This rests on the order of the rows, and on the host:
  *   - The new book and its orders are kept together, in one step (one file replaced, one transaction), before the first order is obeyed. A host that
  *     was stopped obeys them all again, from the first. What an order asks for and is there already stays as it is: a key, a token, a lock, a folder.
  *     Then the same holds on the way, also if it stops again, and at the end the host has what the new book says (RULES 6.7).
