@@ -36,7 +36,8 @@ static void expect(int met, const char *what) {
     }
 }
 
-/* What an order asks of the host. */
+/* What an order asks of the host. In an insert the lock is asked for before the folder is encrypted: a host with real keys keeps it in mind and
+ * stores the folder locked. */
 static void obey(const uint16_t *row) {
     unsigned a = row[1], b = row[2];
     switch (row[0]) {
@@ -60,7 +61,8 @@ static void obey(const uint16_t *row) {
  *   1. keeps the new book (fenstubble_write) and these rows together, in one step: both are there after a stop, or neither;
  *   2. obeys the rows in their order, each so that obeying it twice does no harm;
  *   3. keeps the book without the rows.
- * A host that was stopped goes on from what it kept: where there are rows it obeys them all again, from the first. */
+ * A host that was stopped goes on from what it kept: where there are rows it obeys them all again, from the first. Wherever it stops, nobody is let
+ * in by it: locks are asked for before the token or the folder that needs them. */
 static void accepted(uint16_t result) {
     expect(result == FENSTUBBLE_DONE, fenstubble_reason(result));
     for (unsigned row = 0; row < count; row++)
@@ -154,7 +156,7 @@ int main(int argc, char **argv) {
     insert_for(&book, 0, 1);
     insert_for(&book, 0, 1);
 
-    /* Both folders have the same inner key: the new reader of one must be kept out of the other. */
+    /* Both folders have the same inner key: the new reader of one must be kept out of the other, which is locked before the token is published. */
     printf("grant folder 0 to person 2\n");
     accepted(fenstubble_grant(BOOK(&book), ORDERS, 0, 2));
     open_folder(&book, 2, 0, FENSTUBBLE_VIEW_OPEN);

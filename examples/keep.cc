@@ -121,7 +121,7 @@ public:
     }
 };
 
-// What an order asks of the host.
+// What an order asks of the host. In an insert the lock comes before its folder: keep.c.
 void obey(const Order &order) {
     unsigned a = order[1], b = order[2];
     switch (order[0]) {

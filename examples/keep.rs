@@ -45,7 +45,7 @@ calls! {
 }
 
 // The header's numbers, without their FENSTUBBLE_.
-const VERSION: u32 = 20000;
+const VERSION: u32 = 30000;
 const HEAD_LEN: usize = 7;
 const INNER_VERTICES_BYTES: usize = 320 * 8;
 const INNER_TOKENS_BYTES: usize = 4096 * 5;
@@ -247,7 +247,8 @@ impl Book {
     }
 }
 
-/// What an order asks of the host.
+/// What an order asks of the host. In an insert the lock comes before its
+/// folder: keep.c.
 fn obey(order: [u16; 3]) -> Result<(), String> {
     match order {
         [1, v, _] => println!("  make outer key {v}"),

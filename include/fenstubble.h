@@ -70,13 +70,29 @@
  *
  * fenstubble_read and fenstubble_section tell it so, and fenstubble_row_at makes section and row of a place.
  *
- * ORDERS are rows of three numbers: kind, a, b (enum fenstubble_order). The host obeys them in their order. The new book and its orders are kept
- * together, in one step (one file replaced, one transaction), before the first order is obeyed; a host that was stopped obeys them all again, from the
- * first, so obeying one twice must do no harm.
+ * ORDERS are rows of three numbers: kind, a, b (enum fenstubble_order). The host obeys them in their order. By their kinds, where what is not made has
+ * no row:
+ *
+ *   join     4, 1
+ *   insert   4, the 5s; for the lock 1, the 2s, 3; 7
+ *   grant    for the other folders that its token would open 1, the 2s, a 3 for each; for the folder itself 1, the 2s, 3; 6
+ *   revoke   1, the 2s, 3
+ *
  *   - A new user's number is head[FENSTUBBLE_HEAD_USERS] before the join, which is the number of users less 1 after it. A new folder's is
  *     head[FENSTUBBLE_HEAD_RESOURCES] before the insert, the number of folders less 1 after it.
  *   - A join has two orders, 4 and 1. The keys that they make are the new user's own, to be handed to that user. No other request makes a user's own
  *     vertex, and nobody is handed the keys of the others.
+ *
+ * A HOST THAT STOPS in the middle of a request, behind any of its orders, has let nobody in. Proved: every other encrypted folder opens for exactly
+ * its list, and the folder that the request names for all who are on its list both before and after the request, and for nobody who is on neither. A
+ * new folder counts once it is encrypted (RULES 6.6). This rests on the order of the rows, and on the host:
+ *   - The new book and its orders are kept together, in one step (one file replaced, one transaction), before the first order is obeyed. A host that
+ *     was stopped obeys them all again, from the first. What an order asks for and is there already stays as it is: a key, a token, a lock, a folder.
+ *     Then the same holds on the way, also if it stops again, and at the end the host has what the new book says (RULES 6.7).
+ *   - Each order is obeyed as a whole or not at all. A 3 exchanges one lock for another in one step: while the old one is off and the new one is not on
+ *     yet, the folder would be open to all who have its inner key.
+ *   - An insert asks for the lock of its folder before the folder is there: 3, then 7. The host keeps the lock in mind, and at the 7 it stores the
+ *     folder with it, in one step: encrypted and locked, never first the one and then the other.
  *
  * LENDING. A pointer is followed by its length: in bytes for a table, a set, a book or a buffer, in numbers (not in rows) for the
  * rest: a head, orders, requests, answers, the list of an open.
@@ -103,8 +119,8 @@ extern "C" {
 #endif
 
 /* major * 10000 + minor * 100 + patch */
-#define FENSTUBBLE_VERSION 20000
-#define FENSTUBBLE_VERSION_TEXT "2.0.0"
+#define FENSTUBBLE_VERSION 30000
+#define FENSTUBBLE_VERSION_TEXT "3.0.0"
 
 /* ---- limits and sizes */
 
@@ -210,12 +226,14 @@ enum fenstubble_order {
     FENSTUBBLE_ORDER_OUTER_KEY = 1,    /* v 0: make a key for outer vertex v */
     FENSTUBBLE_ORDER_OUTER_TOKEN = 2,  /* v w: publish an outer token, which from the key of vertex v gives the key of vertex w */
     FENSTUBBLE_ORDER_LOCK = 3,         /* r v: take the outer lock of folder r off, if it has one, and lock it with the key of outer vertex v;
-                                        * where v is FENSTUBBLE_NO_OUTER it stays off */
+                                        * where v is FENSTUBBLE_NO_OUTER it stays off. In an insert r is the folder that the 7 behind it brings:
+                                        * it has this lock from the moment when it is there */
     FENSTUBBLE_ORDER_INNER_KEY = 4,    /* v 0: make a derivation key for inner vertex v; its access key is the hash of that one */
     FENSTUBBLE_ORDER_INNER_TOKEN = 5,  /* v w: publish an inner token, which from the derivation key of vertex v gives that of vertex w */
     FENSTUBBLE_ORDER_ACCESS_TOKEN = 6, /* v w: publish an inner token, which from the derivation key of vertex v gives the access key of vertex w,
                                         * and nothing that lies behind it */
-    FENSTUBBLE_ORDER_ENCRYPT = 7       /* r v: encrypt the new folder r with the access key of inner vertex v */
+    FENSTUBBLE_ORDER_ENCRYPT = 7       /* r v: encrypt the new folder r with the access key of inner vertex v; it comes with the lock of the 3 before
+                                        * it, where there is one */
 };
 
 /* why a call was refused: fenstubble_reason has the words */

@@ -16,7 +16,7 @@ A request that is refused raises Refused and leaves the book as it was. Bytes th
     Traceback (most recent call last):
     fenstubble.Refused: 38 (byte 67, folder row 0): S8 is broken: the folder's outer lock is not what its mode and its list ask for
 
-The module lends what the calls need, so 10 and 13 never come. The library is the file that FENSTUBBLE_LIBRARY names, or lib/libfenstubble.so.2 of the prefix that
+The module lends what the calls need, so 10 and 13 never come. The library is the file that FENSTUBBLE_LIBRARY names, or lib/libfenstubble.so.3 of the prefix that
 this file is installed in, or what the system's loader finds. One thread at a time on one book.
 """
 from __future__ import annotations
@@ -30,7 +30,7 @@ from itertools import count, islice
 from pathlib import Path
 from typing import Callable, Iterable, Iterator, NamedTuple, Optional, Sequence, Union
 
-VERSION = 20000  # that this module is written for: major * 10000 + minor * 100 + patch
+VERSION = 30000  # that this module is written for: major * 10000 + minor * 100 + patch
 USERS, RESOURCES, INNER_TOKENS, OUTER_TOKENS, OUTER_GROUPS = 64, 256, 4096, 4096, 448  # the limits; a resource is a folder
 SET_BYTES = 8  # a set of users: bit i % 8 of byte i // 8 is user i
 WIDTHS = (SET_BYTES, 5, SET_BYTES, 4, SET_BYTES + 4)  # bytes of a row: inner vertices, inner tokens, outer vertices, outer tokens, folders
@@ -63,11 +63,11 @@ class Kind(IntEnum):
 
     OUTER_KEY = 1  # make the key of outer vertex a; in a join, hand it to the new user
     OUTER_TOKEN = 2  # publish the outer token from vertex a to vertex b
-    LOCK = 3  # take the outer lock of folder a off, and put on that of outer vertex b, or none for NO_OUTER
+    LOCK = 3  # take the outer lock of folder a off, and put on that of outer vertex b, or none for NO_OUTER; in an insert the folder comes with this lock
     INNER_KEY = 4  # make the derivation key of inner vertex a; in a join, hand it to the new user
     INNER_TOKEN = 5  # publish the inner token from vertex a to the derivation key of vertex b
     ACCESS_TOKEN = 6  # publish the inner token from vertex a to the access key of vertex b
-    ENCRYPT = 7  # encrypt folder a with the access key of inner vertex b
+    ENCRYPT = 7  # encrypt the new folder a with the access key of inner vertex b, and store it with the lock that was asked for it
 
 
 class Ask(IntEnum):
@@ -104,7 +104,8 @@ class Order(NamedTuple):
 
 
 class Answer(NamedTuple):
-    """An accepted request: the new user or folder (of a grant or revoke: its folder), and the orders, to be obeyed one after the other."""
+    """An accepted request: the new user or folder (of a grant or revoke: its folder), and the orders, to be obeyed one after the other. Wherever the host stops in them,
+    nobody is let in: a grant's token and an insert's folder come last, behind the locks. An insert may ask for the lock of its folder before the folder is there."""
 
     number: int
     orders: list[Order]
@@ -217,8 +218,8 @@ Reply = Union[Answer, Chains, Refused]
 
 def _load() -> ctypes.CDLL:
     named = os.environ.get("FENSTUBBLE_LIBRARY")
-    installed = Path(__file__).resolve().parent.parent.parent / "lib" / "libfenstubble.so.2"
-    path = named or (str(installed) if installed.exists() else "libfenstubble.so.2")
+    installed = Path(__file__).resolve().parent.parent.parent / "lib" / "libfenstubble.so.3"
+    path = named or (str(installed) if installed.exists() else "libfenstubble.so.3")
     try:
         library = ctypes.CDLL(path)
     except OSError as error:

@@ -1,4 +1,4 @@
-"""Tests of fenstubble.py, against the library and against include/fenstubble.h:  FENSTUBBLE_LIBRARY=.../libfenstubble.so.2 python3 python/test_fenstubble.py"""
+"""Tests of fenstubble.py, against the library and against include/fenstubble.h:  FENSTUBBLE_LIBRARY=.../libfenstubble.so.3 python3 python/test_fenstubble.py"""
 from __future__ import annotations
 
 import doctest
@@ -87,7 +87,7 @@ class Requests(Case):
         self.assertEqual([book.join() for _ in range(3)], [Answer(user, [Order(Kind.INNER_KEY, user, 0), Order(Kind.OUTER_KEY, user, 0)]) for user in range(3)])
         self.assertEqual(book.insert({0, 1}), (0, [(4, 3, 0), (5, 0, 3), (5, 1, 3), (7, 0, 3)]))
         self.assertEqual(book.insert([1, 0]), (1, [(7, 1, 3)]))
-        self.assertEqual(book.grant(0, 2), (0, [(6, 2, 3), (1, 3, 0), (2, 0, 3), (2, 1, 3), (3, 1, 3)]))
+        self.assertEqual(book.grant(0, 2), (0, [(1, 3, 0), (2, 0, 3), (2, 1, 3), (3, 1, 3), (6, 2, 3)]))
         self.assertEqual(book.view(2, 1), View.OUTER_LOCKED)
         self.assertEqual(book.revoke(0, 1), (0, [(1, 4, 0), (2, 0, 4), (2, 2, 4), (3, 0, 4)]))
         self.assertEqual(book.grant(0, 1), (0, [(3, 0, 65535)]))
@@ -96,11 +96,39 @@ class Requests(Case):
         self.assertEqual(len(book.to_bytes()), 152)
 
     def test_full(self) -> None:
+        """P9 and P10, and a folder whose lock is new."""
         book = Book(Mode.FULL)
         book.join(), book.join()
-        self.assertEqual(book.insert({0}).orders, [(7, 0, 0), (3, 0, 0)])
-        self.assertEqual(book.grant(0, 1).orders, [(6, 1, 0), (1, 2, 0), (2, 0, 2), (2, 1, 2), (3, 0, 2)])
+        self.assertEqual(book.insert({0}).orders, [(3, 0, 0), (7, 0, 0)])
+        self.assertEqual(book.grant(0, 1).orders, [(1, 2, 0), (2, 0, 2), (2, 1, 2), (3, 0, 2), (6, 1, 0)])
+        book.join()
+        self.assertEqual(book.insert({1, 2}).orders, [(4, 3, 0), (5, 1, 3), (5, 2, 3), (1, 4, 0), (2, 1, 4), (2, 3, 4), (3, 1, 4), (7, 1, 3)])
         self.assertEqual(book.mode, Mode.FULL)
+
+    def test_neighbours_first(self) -> None:
+        """The second example of RULES 5.8: a neighbour's lock, the folder's own, the token."""
+        book = Book(Mode.DELTA)
+        for _ in range(3):
+            book.join()
+        book.insert({0, 1}), book.insert({0, 1})
+        self.assertEqual(book.revoke(0, 1).orders, [(3, 0, 0)])
+        neighbour, own, token = [(1, 3, 0), (2, 0, 3), (2, 1, 3), (3, 1, 3)], [(1, 4, 0), (2, 0, 4), (2, 2, 4), (3, 0, 4)], [(6, 2, 3)]
+        self.assertEqual(book.grant(0, 2).orders, neighbour + own + token)
+
+    def test_order_of_orders(self) -> None:
+        """RULES 6.2, of random requests: the kinds of each row, one behind the other."""
+        shapes = {Ask.JOIN: "41", Ask.INSERT: "(45+)?((12+)?3)?7", Ask.GRANT: "((12+)?3+)?((12+)?3)?6?", Ask.REVOKE: "(12*)?3"}
+        met = set()
+        for seed in range(40):
+            draw, book = random.Random(seed), Book(Mode(seed % 2))
+            requests = [Serve.drawn(draw) for _ in range(80)]
+            for request, reply in zip(requests, book.serve(requests)):
+                if isinstance(reply, Answer):
+                    kinds = "".join(str(order.kind.value) for order in reply.orders)
+                    self.assertRegex(kinds, f"^({shapes[request.ask]})$")
+                    met.add(kinds)
+        self.assertTrue({"37", "7", "36", "6"} <= met and any(re.fullmatch("45+12+37", kinds) for kinds in met))
+        self.assertTrue(any(re.fullmatch("12+3+12+36", kinds) for kinds in met), sorted(met))
 
     def test_what_is_in_it(self) -> None:
         book = family()

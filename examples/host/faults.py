@@ -8,7 +8,7 @@ from typing import Callable, NamedTuple, Optional
 import host as hosting
 from host import NEW, Host, Keys, Owner, Pending, Storage
 from machine import Machine
-from fenstubble import Answer, Book
+from fenstubble import Answer, Book, Kind
 
 
 class EarlyHost(Host):
@@ -21,7 +21,7 @@ class EarlyHost(Host):
             self.obey(order, Pending(word, number, orders))
             self.disk.stop("obeyed", self.root)
         self.keep(book, None)
-        self.owner.clear_stages()
+        self.clear()
         return number
 
 
@@ -34,10 +34,54 @@ class AnewKeysHost(Host):
     keys_class = AnewKeys
 
 
+class ReorderingHost(Host):
+    first: tuple[Kind, ...]
+
+    def request(self, word: str, ask: Callable[[Book], Answer], text: Optional[bytes] = None) -> int:
+        def reordered(book: Book) -> Answer:
+            number, orders = ask(book)
+            return Answer(number, sorted(orders, key=lambda order: order.kind not in self.first))
+
+        return super().request(word, reordered, text)
+
+
+class TokenFirstHost(ReorderingHost):
+    first = (Kind.ACCESS_TOKEN,)
+
+
+class FolderFirstHost(ReorderingHost):
+    first = (Kind.INNER_KEY, Kind.INNER_TOKEN, Kind.ENCRYPT)
+
+
+class LockFirstHost(ReorderingHost):
+    first = (Kind.OUTER_KEY, Kind.LOCK)
+
+
+class NakedStorage(Storage):
+    def take(self, bare: hosting.Locked) -> None:
+        self.put(bare)
+        self.lock(bare.folder, self.waits(bare.folder))
+
+
+class NakedHost(Host):
+    storage_class = NakedStorage
+
+
+class AbsentStorage(Storage):
+    def lock(self, folder: int, outer: Optional[int]) -> None:
+        if self.has(folder):
+            super().lock(folder, outer)
+
+
+class AbsentHost(Host):
+    storage_class = AbsentStorage
+
+
 class BareOwner(Owner):
     def encrypt(self, folder: int, inner: int) -> None:
-        text = (self.stages / str(folder)).read_bytes()
-        self.storage.put(hosting.Locked(folder, inner, None).filled(hosting.access_key(self.keys.key(inner)), text))
+        if self.storage.has(folder):
+            self.storage.put(self.encrypted(folder, inner))
+        super().encrypt(folder, inner)
 
 
 class BareHost(Host):
@@ -46,9 +90,9 @@ class BareHost(Host):
 
 class GapStorage(Storage):
     def lock(self, folder: int, outer: Optional[int]) -> None:
-        if self.locked(folder).outer != outer:
+        if self.has(folder) and self.locked(folder).outer != outer:
             super().lock(folder, None)
-            super().lock(folder, outer)
+        super().lock(folder, outer)
 
 
 class GapHost(Host):
@@ -102,6 +146,11 @@ class Fault(NamedTuple):
 
 FAULTS = {
     "early": Fault("orders are obeyed before the book is replaced", host=EarlyHost),
+    "hasty": Fault("a grant's token is published before the neighbours are locked", host=TokenFirstHost),
+    "lockless": Fault("a new folder is encrypted before it is locked", host=FolderFirstHost),
+    "shut": Fault("a folder is locked before the tokens to its lock are published", host=LockFirstHost),
+    "naked": Fault("a new folder is stored before the lock that waits for it is put on", host=NakedHost),
+    "absent": Fault("a lock for a folder that is not there yet is forgotten", host=AbsentHost),
     "anew": Fault("a key is made anew when its order is obeyed again", host=AnewKeysHost),
     "bare": Fault("encrypting obeyed again takes the outer lock off", host=BareHost),
     "gap": Fault("a folder's old outer lock comes off before its new one goes on", host=GapHost),

@@ -101,6 +101,18 @@ def unlock(key: bytes, box: bytes) -> Optional[bytes]:
         return None
 
 
+def outer_text(outer: Optional[int]) -> str:
+    """An outer lock as files name it: its vertex, or none."""
+    return "outer none" if outer is None else f"outer {outer}"
+
+
+def outer_from(text: bytes) -> Optional[int]:
+    said = re.fullmatch(rb"outer (\d+|none)", text)
+    if said is None:
+        raise Damaged("a file that does not say which outer lock")
+    return None if said.group(1) == b"none" else int(said.group(1))
+
+
 class Locked(NamedTuple):
     """A folder's file: a public line that says how it is locked, and a box. The box has the same line inside, so that a line exchanged outside is noticed."""
 
@@ -110,19 +122,18 @@ class Locked(NamedTuple):
     box: bytes = b""
 
     def line(self) -> bytes:
-        outer = "none" if self.outer is None else self.outer
-        return f"folder {self.folder} inner {self.inner} outer {outer}\n".encode()
+        return f"folder {self.folder} inner {self.inner} {outer_text(self.outer)}\n".encode()
 
     def to_bytes(self) -> bytes:
         return self.line() + self.box
 
     @staticmethod
     def from_bytes(data: bytes) -> Locked:
-        said = re.match(rb"folder (\d+) inner (\d+) outer (\d+|none)\n", data)
+        said = re.match(rb"folder (\d+) inner (\d+) (outer [^\n]+)\n", data)
         if said is None:
             raise Damaged("a locked file without its first line")
         folder, inner, outer = said.groups()
-        return Locked(int(folder), int(inner), None if outer == b"none" else int(outer), data[said.end() :])
+        return Locked(int(folder), int(inner), outer_from(outer), data[said.end() :])
 
     @staticmethod
     def from_file(public: Path, folder: int) -> Locked:
@@ -232,10 +243,11 @@ def token_name(layer: str, token: Token) -> str:
 
 
 class Storage:
-    """The rented storage: public tokens and locked folders, and the keys of the outer locks, its own. It sees no inner key and no text."""
+    """The rented storage: public tokens and locked folders, and the keys of the outer locks, its own. It sees no inner key and no text. A lock may be asked for before
+    its folder is there: it waits, and the folder has it from the moment when it is there."""
 
     def __init__(self, disk: Disk, folder: Path, keys: type[Keys]) -> None:
-        self.disk, self.keys, self.public = disk, keys(disk, folder / "keys"), folder / "public"
+        self.disk, self.keys, self.waiting, self.public = disk, keys(disk, folder / "keys"), folder / "waiting", folder / "public"
 
     def publish(self, name: str, token: bytes) -> None:
         """Obeyed again: a token is a function of its two keys and a label, which is one of its target: the same bytes are written again."""
@@ -246,11 +258,32 @@ class Storage:
         self.publish(token_name("outer", Token(source, target)), token)
 
     def lock(self, folder: int, outer: Optional[int]) -> None:
-        """Obeyed again: a folder that has this lock already, or none where none is asked for, stays. The old lock comes off and the new one on in one replace."""
+        """Obeyed again: a folder that has this lock already, or none where none is asked for, stays. The old lock comes off and the new one on in one replace. A lock that
+        waits for its folder waits again, the same one."""
+        if not self.has(folder):
+            self.disk.replace(self.waiting / str(folder), outer_text(outer).encode())
+            return
         locked = self.locked(folder)
         bare = locked if locked.outer is None else locked.without_outer(self.keys.key(locked.outer))
         if locked.outer != outer:
-            self.put(bare if outer is None else bare.with_outer(outer, self.keys.key(outer)))
+            self.put(self.around(bare, outer))
+
+    def take(self, bare: Locked) -> None:
+        """A new folder, as the owner has encrypted it. The lock that waits for it is put on before it is stored: it is never there without."""
+        self.put(self.around(bare, self.waits(bare.folder)))
+
+    def waits(self, folder: int) -> Optional[int]:
+        file = self.waiting / str(folder)
+        return outer_from(file.read_bytes()) if file.exists() else None
+
+    def check_arrived(self) -> None:
+        """A lock that waits for a folder when all orders are obeyed: the folder was lost."""
+        for file in self.waiting.iterdir():
+            if not self.has(int(file.name)):
+                raise Damaged(f"folder {file.name} is not in the storage")
+
+    def around(self, bare: Locked, outer: Optional[int]) -> Locked:
+        return bare if outer is None else bare.with_outer(outer, self.keys.key(outer))
 
     def has(self, folder: int) -> bool:
         return self.path(folder).exists()
@@ -283,14 +316,13 @@ class Owner:
         self.disk.replace(self.stages / str(folder), text)
 
     def encrypt(self, folder: int, inner: int) -> None:
-        """Obeyed again: a folder that is in the storage stays as it is there. Encrypting it again would take an outer lock off that was put on since."""
+        """Obeyed again: a folder that is in the storage stays as it is there, with its outer lock."""
         if not self.storage.has(folder):
-            text = (self.stages / str(folder)).read_bytes()
-            self.storage.put(Locked(folder, inner, None).filled(access_key(self.keys.key(inner)), text))
+            self.storage.take(self.encrypted(folder, inner))
 
-    def clear_stages(self) -> None:
-        for file in self.stages.iterdir():
-            self.disk.remove(file)
+    def encrypted(self, folder: int, inner: int) -> Locked:
+        text = (self.stages / str(folder)).read_bytes()
+        return Locked(folder, inner, None).filled(access_key(self.keys.key(inner)), text)
 
 
 class Chain(NamedTuple):
@@ -346,7 +378,8 @@ class Host:
     the last one, the same book without orders. A host that starts and finds orders obeys them all, from the first."""
 
     keys_class, owner_class, storage_class = Keys, Owner, Storage
-    FOLDERS = ("owner", "owner/keys", "owner/stage", "storage", "storage/keys", "storage/public", "storage/public/tokens", "storage/public/folders", "people")
+    FOLDERS = ("owner", "owner/keys", "owner/stage", "people", "storage", "storage/keys", "storage/waiting")
+    FOLDERS += ("storage/public", "storage/public/tokens", "storage/public/folders")
 
     @classmethod
     def create(cls, root: Path, mode: Mode) -> None:
@@ -432,8 +465,15 @@ class Host:
             for order in self.pending.orders:
                 self.obey(order, self.pending)
                 self.disk.stop("obeyed", self.root)
+            self.storage.check_arrived()
             self.keep(self.book, None)
-        self.owner.clear_stages()
+        self.clear()
+
+    def clear(self) -> None:
+        """What waited for a new folder is not needed once its orders are obeyed: its text and its lock."""
+        for folder in (self.owner.stages, self.storage.waiting):
+            for file in folder.iterdir():
+                self.disk.remove(file)
 
     def recover(self) -> None:
         """The host before may have stopped between a rename and its folder's sync: what is there has to stay there before anything is built on it."""

@@ -11,8 +11,8 @@ from typing import Callable, Iterator
 
 import brute
 import host as hosting
-from host import Busy, Chain, Damaged, Disk, Host, Locked, Person
-from fenstubble import Mode, Refused
+from host import Busy, Chain, Damaged, Disk, Host, Locked, Pending, Person
+from fenstubble import Kind, Mode, Order, Refused
 
 TEXTS = (b"case notes", b"reading pack")
 
@@ -46,6 +46,21 @@ class FailingDisk(Disk):
                 raise OSError("no space left")
 
 
+class Dropped(Exception):
+    """The line dropped."""
+
+
+class DroppingHost(Host):
+    """A host whose line drops when it has obeyed an order of that kind."""
+
+    after = Kind.LOCK
+
+    def obey(self, order: Order, pending: Pending) -> None:
+        super().obey(order, pending)
+        if order.kind == self.after:
+            raise Dropped
+
+
 class Case(unittest.TestCase):
     mode = Mode.DELTA
 
@@ -73,6 +88,10 @@ class Case(unittest.TestCase):
 
     def opens(self, user: int, folder: int) -> bytes:
         return Person(self.root, user).open(folder, self.chain(user, folder))
+
+    def everybody(self) -> list[set[int]]:
+        """The folders that each person opens by any means."""
+        return [set(brute.open_all(self.root, person)) for person in range(3)]
 
     def content(self) -> dict[str, bytes]:
         return {str(path): path.read_bytes() for path in self.root.rglob("*") if path.is_file()}
@@ -184,7 +203,7 @@ class Hosts(Case):
 
     def test_private(self) -> None:
         """Only what is public can be read by others."""
-        for name in ("owner", "owner/keys", "storage/keys", "people", "people/0"):
+        for name in ("owner", "owner/keys", "storage/keys", "storage/waiting", "people", "people/0"):
             self.assertEqual((self.root / name).stat().st_mode & 0o077, 0, name)
 
     def test_refused(self) -> None:
@@ -220,7 +239,20 @@ class Hosts(Case):
             file.write_bytes(key)
             with Host(self.root) as host:
                 self.assertEqual(host.read(1, 2), b"more")
-        self.assertEqual([set(brute.open_all(self.root, person)) for person in range(3)], [{0, 1}, {1, 2}, {1, 2}])
+        self.assertEqual(self.everybody(), [{0, 1}, {1, 2}, {1, 2}])
+
+    def test_folder_lost(self) -> None:
+        """A lock for a folder that is lost is not forgotten: once the folder is brought back, as it was, it gets the lock."""
+        there = self.file(0).read_bytes()
+        self.file(0).unlink()
+        with Host(self.root) as host:
+            self.assertRaises(Damaged, host.revoke, 0, 1)
+        self.assertRaises(Damaged, Host, self.root)
+        self.file(0).write_bytes(there)
+        with Host(self.root) as host:
+            self.assertEqual(host.read(0, 0), TEXTS[0])
+        self.assertEqual(self.everybody(), [{0, 1}, {1}, {1}])
+        self.assertEqual(list((self.root / "storage" / "waiting").iterdir()), [])
 
     def test_handed_key_damaged(self) -> None:
         for layer in ("inner", "outer"):
@@ -298,6 +330,104 @@ class Hosts(Case):
             for folder in range(2, after.book.folders):
                 self.assertEqual([after.read(0, folder), after.read(2, folder)], [b"more"] * 2)
         self.assertEqual(set(brute.open_all(self.root, 1)), {0, 1})
+
+
+class Arrivals(Case):
+    """A lock that is asked for before its folder is there. Folder 2 is to have the inner key of the first two, which person 2 has by a token."""
+
+    INNER = 3
+
+    def setUp(self) -> None:
+        super().setUp()
+        with Host(self.root) as host:
+            self.outer = host.book.folder_rows[0].outer
+
+    def waiting(self) -> dict[str, bytes]:
+        return {file.name: file.read_bytes() for file in (self.root / "storage" / "waiting").iterdir()}
+
+    def arrive(self, host: Host) -> None:
+        host.owner.stage(2, b"more")
+        host.owner.encrypt(2, self.INNER)
+
+    def test_waits(self) -> None:
+        with Host(self.root) as host:
+            host.storage.lock(2, self.outer)
+            self.assertFalse(host.storage.has(2))
+            self.assertEqual(self.waiting(), {"2": f"outer {self.outer}".encode()})
+            self.arrive(host)
+            self.assertEqual(host.storage.locked(2)[:3], (2, self.INNER, self.outer))
+        self.assertEqual(self.everybody(), [{0, 1, 2}, {0, 1, 2}, {1}])
+
+    def test_obeyed_again(self) -> None:
+        """Each order twice, and both again."""
+        with Host(self.root) as host:
+            for _ in range(2):
+                host.storage.lock(2, self.outer)
+            for _ in range(2):
+                self.arrive(host)
+            once = self.content()
+            host.storage.lock(2, self.outer)
+            host.owner.encrypt(2, self.INNER)
+            self.assertEqual(self.content(), once)
+
+    def test_other_lock(self) -> None:
+        """The last lock that was asked for counts; none may be asked for too."""
+        with Host(self.root) as host:
+            for outer in (0, None, 1):
+                host.storage.lock(2, outer)
+                self.assertEqual(host.storage.waits(2), outer)
+            self.arrive(host)
+            self.assertEqual(host.storage.locked(2).outer, 1)
+            host.storage.lock(2, None)
+            self.assertIsNone(host.storage.locked(2).outer)
+
+    def test_dropped_between(self) -> None:
+        """After the 3 and before the 7: the folder is not there, and the next host brings it, locked. Nothing is left over."""
+        self.drop_after(Kind.LOCK, set())
+        self.recovered()
+
+    def test_dropped_behind(self) -> None:
+        """After the 7: the folder is there and locked, and the next host leaves it as it is."""
+        self.drop_after(Kind.ENCRYPT, {2})
+        there = self.file(2).read_bytes()
+        self.recovered()
+        self.assertEqual(self.file(2).read_bytes(), there)
+
+    def test_dropped_again(self) -> None:
+        """In the recovery too, behind each of the two."""
+        self.drop_after(Kind.LOCK, set())
+        for kind, new in ((Kind.LOCK, set()), (Kind.ENCRYPT, {2}), (Kind.LOCK, {2}), (Kind.ENCRYPT, {2})):
+            DroppingHost.after = kind
+            self.assertRaises(Dropped, DroppingHost, self.root)
+            self.assertEqual(self.everybody(), [{0, 1} | new, {0, 1} | new, {1}])
+        self.recovered()
+
+    def test_damaged(self) -> None:
+        """Where it can't be read which lock waits, the folder is not stored."""
+        with Host(self.root) as host:
+            for wrong in (b"", b"outer", b"outer ", b"outer x", b"outer -1", b"3", b"outer 3\n", b"none"):
+                (self.root / "storage" / "waiting" / "2").write_bytes(wrong)
+                self.assertRaises(Damaged, self.arrive, host)
+                self.assertFalse(host.storage.has(2))
+
+    def drop_after(self, kind: Kind, new: set[int]) -> None:
+        DroppingHost.after = kind
+        with DroppingHost(self.root) as host:
+            self.assertRaises(Dropped, host.insert, {0, 1}, b"more")
+        self.assertEqual([order.kind for order in host.pending.orders][-2:], [Kind.LOCK, Kind.ENCRYPT])
+        self.assertEqual(list(self.waiting()), ["2"])
+        self.assertEqual(self.everybody(), [{0, 1} | new, {0, 1} | new, {1}])
+
+    def recovered(self) -> None:
+        with Host(self.root) as host:
+            self.assertEqual((host.pending, host.storage.locked(2).outer), (None, self.outer))
+            self.assertEqual(host.read(0, 2), b"more")
+        self.assertEqual((self.waiting(), list((self.root / "owner" / "stage").iterdir())), ({}, []))
+        self.assertEqual(self.everybody(), [{0, 1, 2}, {0, 1, 2}, {1}])
+
+
+class FullArrivals(Arrivals):
+    mode = Mode.FULL
 
 
 class FullHosts(Hosts):

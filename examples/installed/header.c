@@ -168,13 +168,13 @@ static void numbers(void) {
     }
     /* folder 0 for user 0 alone, whose own keys serve */
     static const uint8_t own[FENSTUBBLE_SET_BYTES] = {1};
-    static const uint16_t locked[] = {FENSTUBBLE_ORDER_ENCRYPT, 0, 0, FENSTUBBLE_ORDER_LOCK, 0, 0};
+    static const uint16_t locked[] = {FENSTUBBLE_ORDER_LOCK, 0, 0, FENSTUBBLE_ORDER_ENCRYPT, 0, 0};
     expect(fenstubble_insert(BOOK, ORDERS, own, sizeof own) == FENSTUBBLE_DONE && count == 2 && memcmp(orders, locked, sizeof locked) == 0);
     expect(book.head[FENSTUBBLE_HEAD_RESOURCES] == 1);
     expect(fenstubble_open(BOOK, 0, 0, NULL, 0, &inner, &outer) == FENSTUBBLE_DONE && inner == 0 && outer == 0);
-    /* user 1 gets a token to the access key; both get an outer key */
-    static const uint16_t shared[] = {FENSTUBBLE_ORDER_ACCESS_TOKEN, 1, 0, FENSTUBBLE_ORDER_OUTER_KEY, 3, 0, FENSTUBBLE_ORDER_OUTER_TOKEN, 0, 3,
-                                      FENSTUBBLE_ORDER_OUTER_TOKEN,  1, 3, FENSTUBBLE_ORDER_LOCK,      0, 3};
+    /* both get an outer key; then user 1 gets a token to the access key */
+    static const uint16_t shared[] = {FENSTUBBLE_ORDER_OUTER_KEY, 3, 0, FENSTUBBLE_ORDER_OUTER_TOKEN,  0, 3, FENSTUBBLE_ORDER_OUTER_TOKEN, 1, 3,
+                                      FENSTUBBLE_ORDER_LOCK,      0, 3, FENSTUBBLE_ORDER_ACCESS_TOKEN, 1, 0};
     expect(fenstubble_grant(BOOK, ORDERS, 0, 1) == FENSTUBBLE_DONE && count == 5 && memcmp(orders, shared, sizeof shared) == 0);
     expect(fenstubble_open(BOOK, 1, 0, rows, FENSTUBBLE_OPEN_ROWS, &inner, &outer) == FENSTUBBLE_DONE && inner == 1 && outer == 1);
     expect(rows[0] == 0 && rows[1] == 1);
@@ -186,7 +186,7 @@ static void numbers(void) {
     /* folder 1 for users 0 and 1 */
     static const uint8_t both[FENSTUBBLE_SET_BYTES] = {3};
     static const uint16_t made[] = {FENSTUBBLE_ORDER_INNER_KEY, 3, 0, FENSTUBBLE_ORDER_INNER_TOKEN, 0, 3, FENSTUBBLE_ORDER_INNER_TOKEN, 1, 3,
-                                    FENSTUBBLE_ORDER_ENCRYPT,   1, 3, FENSTUBBLE_ORDER_LOCK,        1, 3};
+                                    FENSTUBBLE_ORDER_LOCK,      1, 3, FENSTUBBLE_ORDER_ENCRYPT,     1, 3};
     expect(fenstubble_insert(BOOK, ORDERS, both, sizeof both) == FENSTUBBLE_DONE && count == 5 && memcmp(orders, made, sizeof made) == 0);
     /* a folder without an outer lock, and a user whom its inner one keeps out; one whom the outer lock keeps out */
     story(FENSTUBBLE_MODE_DELTA);
