@@ -88,7 +88,9 @@
  * new folder counts once it is encrypted (RULES 6.6). This rests on the order of the rows, and on the host:
  *   - The new book and its orders are kept together, in one step (one file replaced, one transaction), before the first order is obeyed. A host that
  *     was stopped obeys them all again, from the first. What an order asks for and is there already stays as it is: a key, a token, a lock, a folder.
- *     Then the same holds on the way, also if it stops again, and at the end the host has what the new book says (RULES 6.7).
+ *     Then the same holds on the way, also if it stops again, and at the end the host has what the new book says (RULES 6.7). Of several requests in one
+ *     call (fenstubble_serve) each is obeyed so by itself: the host notes when one is done, and after a stop begins with the first that is not. If it
+ *     began with an earlier one, a lock that has been changed since would come back for a while.
  *   - Each order is obeyed as a whole or not at all. A 3 exchanges one lock for another in one step: while the old one is off and the new one is not on
  *     yet, the folder would be open to all who have its inner key.
  *   - An insert asks for the lock of its folder before the folder is there: 3, then 7. The host keeps the lock in mind, and at the 7 it stores the
@@ -418,7 +420,7 @@ enum fenstubble_request {
  * book, uses no order rows, and the next one goes on. A request row is three numbers: its kind (enum fenstubble_request), a, b; none is cut to fewer
  * bits. Its answer row is three numbers: the refusal's number or 0; the view for 11, else 0; and how many order rows it was given, which follow those
  * of the requests before it. *used is how many rows all used; FENSTUBBLE_ORDER_ROWS for each request are always enough. The book is judged once, first,
- * so that no answer row has 13 or 12. Numbers past the last whole row of three do not count.
+ * so that no answer row has 13 or 12. Numbers past the last whole row of three do not count. A host notes of each request when its orders are obeyed.
  * 13, 12, 10 (fewer answer rows than request rows) */
 uint16_t fenstubble_serve(uint16_t *head, size_t head_len, FENSTUBBLE_TABLES, const uint64_t *requests, size_t requests_len, uint16_t *answers,
                           size_t answers_len, uint16_t *orders, size_t orders_len, size_t *used);

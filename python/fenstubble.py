@@ -379,7 +379,8 @@ class Book:
         return Chains(rows[: inner.value], rows[inner.value : inner.value + outer.value])
 
     def serve(self, requests: Iterable[Request]) -> list[Reply]:
-        """Each request on the book that those before it left, all in one call. A refusal is among the replies, and the next request is tried."""
+        """Each request on the book that those before it left, all in one call. A refusal is among the replies, and the next request is tried. A host obeys the orders of one
+        reply after the other and notes when each is done: after a stop it begins with the first that is not."""
         asked = list(requests)
         numbers = [number for request in asked for number in _row(request)]
         room = sum(OPEN_ROWS if request.ask == Ask.OPEN else ORDER_ROWS for request in asked)
