@@ -8,9 +8,9 @@ use mathlib.Core.List.{List, [], _∷_, _++_, map, append-nil, append-assoc, Lis
 use lib.Dec.{eqb}
 use lib.ListN.{length}
 use borrow.Author.Tests.{ne-eqb}
-use Rattle.sets.specs.Sets.{has, single}
+use Rattle.sets.specs.Sets.{single}
 use Rattle.rules.specs.Lists.{every, pairwise}
-use Rattle.rules.specs.Layer.{Layer, token, cover, found, vertexFor}
+use Rattle.rules.specs.Layer.{Layer, cover, found, vertexFor}
 use Rattle.rules.specs.declared.Order.{Order}
 use Rattle.rules.specs.Book as book
 use Rattle.rules.specs.Book.{Book, resource, hasOuter, withInner, withList}
@@ -23,6 +23,7 @@ use Rattle.theorems.proofs.ListLaws.{pairwise-append}
 use Rattle.theorems.proofs.RequestLaws.{Allowed}
 use Rattle.theorems.proofs.NeighbourLaws.{letInBook}
 use Rattle.theorems.proofs.GroupLaws.{group-orders, grant-group, waiters-mem, waiters-apart}
+use Rattle.theorems.proofs.HostLaws.{letIn-orders}
 use Rattle.theorems.proofs.GrowLaws.{lockOf, locksOf}
 
 pub locks-append : (os ps : List Order) → locksOf (os ++ ps) ≡ locksOf os ++ locksOf ps
@@ -94,19 +95,12 @@ group-locks (i ∷ is) s b =
     ∙ ap₂ (λ (x y : List ℕ). x ++ y) (vertex-locks 1 2 (b .outer) s refl refl) (relock-locks (vertexFor (b .outer) s) (i ∷ is))
 
 letIn-locks : (r u : ℕ) (b : Book) → locksOf (letIn r u b .orders) ≡ []
-unfolding letIn done locksOf lockOf
-letIn-locks r u b = go (has (holdersOf b r) u)
+unfolding locksOf lockOf
+letIn-locks r u b = go (letIn-orders r u b)
   where
-    own : ℕ
-    own = vertexFor (b .inner) (single u)
-
-    v : ℕ
-    v = resource b r .inner
-
-    go : (z : Bool) → locksOf
-        (cond z (done b []) (done (withInner b (record { sets = b .inner .sets; tokens = b .inner .tokens ++ (token own v 1 ∷ []) })) (order 6 own v ∷ [])) .orders) ≡ []
-    go true = refl
-    go false = refl
+    go : (letIn r u b .orders ≡ []) ⊎ (letIn r u b .orders ≡ order 6 (vertexFor (b .inner) (single u)) (resource b r .inner) ∷ []) → locksOf (letIn r u b .orders) ≡ []
+    go (inl e) = ap locksOf e
+    go (inr e) = ap locksOf e
 
 -- orders without locks do not count
 locks-before : (os ps : List Order) → locksOf os ≡ [] → locksOf (os ++ ps) ≡ locksOf ps

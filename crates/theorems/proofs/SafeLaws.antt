@@ -3,7 +3,7 @@
 -- Assumes nothing.
 use Prim.Native.Nat.{ℕ, zero, suc, _+_, _≤_, _<_}
 use mathlib.Core.Path.{_≡_, refl, sym, ap, _∙_, subst}
-use mathlib.Core.Bool.{Bool, true, false, not, cond}
+use mathlib.Core.Bool.{Bool, true, false, not}
 use mathlib.Core.Logic.{_⊎_, inl, inr, _≢_}
 use mathlib.Core.List.{List, [], _∷_, _++_, append-nil, append-assoc, List·Memᴰ, List·Memᴰ·not-nil, List·Memᴰ·eq-of-singleton, Memᴰ·append-left}
 use mathlib.Core.Option as option
@@ -11,9 +11,8 @@ use native.Mathlib.Omega.{arith}
 use lib.ListN.{length, getD, take, drop}
 use Rattle.sets.specs.Sets.{has, single, minus, within}
 use Rattle.sets.proofs.Laws.{both, has-within, has-minus}
-use Rattle.rules.specs.Layer.{Layer, token, vertexFor}
+use Rattle.rules.specs.Layer.{Layer, vertexFor}
 use Rattle.rules.specs.Book.{Book, none, resource, withInner, withList, withResources}
-use Rattle.rules.specs.Holders.{holdersOf}
 use Rattle.rules.specs.Sound.{sound}
 use Rattle.rules.specs.Requests.{done, order, _then_, vertexOrders, innerVertex, lock, lockList, lockNew, lockAll, encrypt, letIn, neighbours, grouped, settle, toldLast, lockNear, join, insert, grant, revoke}
 use Rattle.rules.specs.Refusals.{Request, joins, inserts, grants, revokes, work, refusal}
@@ -31,7 +30,7 @@ use Rattle.theorems.proofs.GroupLaws.{lockedBook, run-passed}
 use Rattle.theorems.proofs.SoundLaws.{sound-kept, sound-counts}
 use Rattle.theorems.proofs.AccessLaws.{list-at, list-access, letIn-access, work-access}
 use Rattle.theorems.proofs.RequestLaws.{Allowed, accepted, work-sound}
-use Rattle.theorems.proofs.HostLaws.{Each, Outer, inward, same-half, other-half, unspoilt-before, Told, kept-standing, each-one, each-both, each-take, vertex-each, lockNew-each, lock-outer, lockNear-outer, letIn-inner, withList-told, lockAll-told, letIn-told, obeyed-work, moved, lockAll-outer}
+use Rattle.theorems.proofs.HostLaws.{Each, Outer, inward, same-half, other-half, unspoilt-before, Told, kept-standing, each-one, each-both, each-take, vertex-each, lockNew-each, lock-outer, lockNear-outer, letIn-orders, letIn-inner, withList-told, lockAll-told, letIn-told, obeyed-work, moved, lockAll-outer}
 use Rattle.theorems.proofs.GrowLaws.{lockOf, locksOf, Grows, stop-grows, obey-grows, rest-grows, obey-keys}
 use Rattle.theorems.proofs.OnceLaws.{locks-append, AtMost, insert-once}
 use Rattle.theorems.proofs.StopLaws.{Through, through-take, through-append, through-end, Within, within-self, within-still, lock-within, lockAll-within, settle-within, Fine, at, lock-through, run-through, settle-through, fine-safe, still-safe, end-safe}
@@ -156,19 +155,11 @@ module _ (b : Book) (hb : sound b ≡ true) (r u : ℕ) (l : r < length (b .reso
 -- ---- grant
 
 letIn-few : (r u : ℕ) (b : Book) → length (letIn r u b .orders) ≤ 1
-unfolding letIn done
-letIn-few r u b = go (has (holdersOf b r) u)
+letIn-few r u b = go (letIn-orders r u b)
   where
-    own : ℕ
-    own = vertexFor (b .inner) (single u)
-
-    v : ℕ
-    v = resource b r .inner
-
-    go : (z : Bool)
-        → length (cond z (done b []) (done (withInner b (record { sets = b .inner .sets; tokens = b .inner .tokens ++ (token own v 1 ∷ []) })) (order 6 own v ∷ [])) .orders) ≤ 1
-    go true = omega arith
-    go false = omega arith
+    go : (letIn r u b .orders ≡ []) ⊎ (letIn r u b .orders ≡ order 6 (vertexFor (b .inner) (single u)) (resource b r .inner) ∷ []) → length (letIn r u b .orders) ≤ 1
+    go (inl e) = rw e (omega arith)
+    go (inr e) = rw e (omega arith)
 
 module _ (b : Book) (hb : sound b ≡ true) (r u : ℕ) (l : r < length (b .resources)) (un : u < b .users) where
   abbrev l′ : ℕ
