@@ -1,6 +1,6 @@
 -- A host that stops in the middle of a request's orders: who opens what from what it has then. RULES 6.6.
 -- Assumes nothing.
-use Prim.Native.Nat.{ℕ, _-_, _*_, _<_}
+use Prim.Native.Nat.{ℕ, _-_, _*_, _≤_, _<_}
 use mathlib.Core.Path.{_≡_}
 use mathlib.Core.Bool.{Bool, true, false, cond}
 use mathlib.Core.Logic.{_⊎_}
@@ -28,6 +28,8 @@ oldList b c r = cond (ltb r (length (b .resources))) (resource b r .list) (resou
 pub record Safe (b c : Book) (s : Store) : Type 0 where
   pub opens-both : (r : ℕ) → r < length (s .keys) → (u : ℕ) → has (oldList b c r) u ≡ true → has (resource c r .list) u ≡ true → HostOpens s u r
   pub opens-only : (r : ℕ) → r < length (s .keys) → (u : ℕ) → HostOpens s u r → (has (oldList b c r) u ≡ true) ⊎ (has (resource c r .list) u ≡ true)
+  -- "every folder of the book is still encrypted there"
+  pub all-there : length (b .resources) ≤ length (s .keys)
   pub unspoilt : s .spoilt ≡ false
 
 -- "an accepted request of which it has obeyed the first k orders"

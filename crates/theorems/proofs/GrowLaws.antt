@@ -1,7 +1,7 @@
 -- What a host has only grows: orders take no key, no token and no encrypted folder away, and change no lock but of the resources that they name. So whoever
 -- derives a key goes on deriving it.
 -- Assumes nothing.
-use Prim.Native.Nat.{ℕ, zero, suc, _<_}
+use Prim.Native.Nat.{ℕ, zero, suc, _≤_, _<_}
 use mathlib.Core.Path.{_≡_, refl, sym, ap, _∙_, subst}
 use mathlib.Core.Bool.{Bool, true, false, cond}
 use mathlib.Core.Logic.{_≢_}
@@ -43,6 +43,9 @@ module _ {A : Type 0} where
     subst (λ (l : List A). i < length l) (sym (p .is)) (omega (arith, length-append xs (p .more))),
     ap (λ (l : List A). getD l i d) (p .is) ∙ List·getD-append xs (p .more) d i l,
   )
+
+  pub longer-length : {xs ys : List A} → Longer xs ys → length xs ≤ length ys
+  longer-length {xs} p = omega (arith, ap (λ (l : List A). length l) (p .is), length-append xs (p .more))
 
   -- what was put at the end stays
   pub put-there : (xs : List A) (x : A) {ys : List A} → Longer (xs ++ (x ∷ [])) ys → List·Memᴰ x ys

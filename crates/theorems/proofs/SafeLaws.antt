@@ -31,7 +31,8 @@ use Rattle.theorems.proofs.SoundLaws.{sound-kept, sound-counts}
 use Rattle.theorems.proofs.AccessLaws.{list-at, list-access, letIn-access, work-access}
 use Rattle.theorems.proofs.RequestLaws.{Allowed, accepted, work-sound}
 use Rattle.theorems.proofs.HostLaws.{Each, Outer, inward, same-half, other-half, unspoilt-before, Told, kept-standing, each-one, each-both, each-take, vertex-each, lockNew-each, lock-outer, lockNear-outer, letIn-orders, letIn-inner, withList-told, lockAll-told, letIn-told, obeyed-work, moved, lockAll-outer}
-use Rattle.theorems.proofs.GrowLaws.{lockOf, locksOf, Grows, stop-grows, obey-grows, rest-grows, obey-keys}
+use Rattle.theorems.proofs.GrowLaws.{longer-length, lockOf, locksOf, Grows, stop-grows, obey-grows, rest-grows, obey-keys}
+use Rattle.theorems.proofs.HostOpensLaws.{keys-count}
 use Rattle.theorems.proofs.OnceLaws.{locks-append, AtMost, insert-once}
 use Rattle.theorems.proofs.StopLaws.{Through, through-take, through-append, through-end, Within, within-self, within-still, lock-within, lockAll-within, settle-within, Fine, at, lock-through, run-through, settle-through, fine-safe, still-safe, end-safe}
 
@@ -53,6 +54,11 @@ take-late (o ∷ front) last (suc k) few = go (take-late front last k few)
         → (o ∷ take k (front ++ last) ≡ o ∷ front ++ last) ⊎ ((n : ℕ) × (o ∷ take k (front ++ last) ≡ take n (o ∷ front)))
     go (inl e) = inl (ap (λ (os : List Order). o ∷ os) e)
     go (inr (n, e)) = inr (suc n, ap (λ (os : List Order). o ∷ os) e)
+
+-- no folder is lost
+more-folders : (j : Bool) (os : List Order) (b c : Book) → obey j os (storeOf b) ≡ storeOf c → length (b .resources) ≤ length (c .resources)
+more-folders j os b c e =
+    omega (arith, longer-length (obey-grows j os (storeOf b) .keys), ap (λ (s : Store). length (s .keys)) e, keys-count b, keys-count c)
 
 -- safe before the last order, and at the end, is safe everywhere
 module _ (b c : Book) (hc : sound c ≡ true) (j : Bool) (os front last : List Order) (split : os ≡ front ++ last) (few : length last ≤ 1)
@@ -78,7 +84,7 @@ module _ (b c : Book) (hc : sound c ≡ true) (j : Bool) (os front last : List O
       to l e = ap (λ (l : List Order). take k l) split ∙ e
 
       go : (take k (front ++ last) ≡ front ++ last) ⊎ ((n : ℕ) × (take k (front ++ last) ≡ take n front)) → Safe b c (S (take k os))
-      go (inl e) = subst (Safe b c) (sym (ap S (to (front ++ last) e ∙ sym split) ∙ ends)) (end-safe b c hc)
+      go (inl e) = subst (Safe b c) (sym (ap S (to (front ++ last) e ∙ sym split) ∙ ends)) (end-safe b c hc (more-folders j os b c ends))
       go (inr (n, e)) =
           subst (λ (l : List Order). Safe b c (S l)) (sym (to (take n front) e))
           (f n ps (subst (λ (l : List Order). Grows ps (S l) (storeOf c)) (to (take n front) e) behind)

@@ -333,6 +333,9 @@ module _ (b c : Book) (hb : sound b ≡ true) (hc : sound c ≡ true) (s : Store
           host-knows g u (main v) .1 (knows-main g u v .1 (ap (λ (x : ℕ). has x u) (sym (w .same v p)) ∙ outer-only v u k))
 
   module _ (same : s .keys ≡ storeOf b .keys) (unspoilt : s .spoilt ≡ false) where
+    count : length (b .resources) ≤ length (s .keys)
+    count = omega (arith, ap (λ (ks : List ℕ). length ks) same, keys-count b)
+
     row : (r : ℕ) → r < length (s .keys) → r < length (b .resources)
     row r l = omega (arith, ap (λ (ks : List ℕ). length ks) same, keys-count b)
 
@@ -342,6 +345,7 @@ module _ (b c : Book) (hb : sound b ≡ true) (hc : sound c ≡ true) (s : Store
         record {
           opens-both = λ r l u x y. opens r (row r l) u (sym (old-list b c r u (row r l)) ∙ x) y (f r (row r l));
           opens-only = λ r l u o. only r l u o (f r (row r l));
+          all-there = count;
           unspoilt = unspoilt;
         }
       where
@@ -359,15 +363,17 @@ module _ (b c : Book) (hb : sound b ≡ true) (hc : sound c ≡ true) (s : Store
         record {
           opens-both = λ r l u x y. old-opens r (row r l) (f r (row r l) .0) u (sym (old-list b c r u (row r l)) ∙ x);
           opens-only = λ r l u o. inr (new-only r l (f r (row r l) .1) u o);
+          all-there = count;
           unspoilt = unspoilt;
         }
 
 -- at the end
-pub end-safe : (b c : Book) → sound c ≡ true → Safe b c (storeOf c)
+pub end-safe : (b c : Book) → sound c ≡ true → length (b .resources) ≤ length (c .resources) → Safe b c (storeOf c)
 unfolding storeOf
-end-safe b c hc =
+end-safe b c hc m =
     record {
       opens-both = λ r l u x y. host-opens c hc r (omega (arith, keys-count c)) u .1 y;
       opens-only = λ r l u o. inr (host-opens c hc r (omega (arith, keys-count c)) u .0 o);
+      all-there = omega (arith, keys-count c);
       unspoilt = refl;
     }

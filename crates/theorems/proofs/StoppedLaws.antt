@@ -7,6 +7,7 @@ use mathlib.Core.Bool.{Bool, true, false, cond}
 use mathlib.Core.Logic.{_⊎_, inl, inr, _↔_}
 use mathlib.Core.List.{List, [], _∷_, _++_}
 use mathlib.Core.Option.{Option, some, none}
+use native.Mathlib.Nat.{le-refl}
 use native.Mathlib.Omega.{arith}
 use lib.Dec.{eqb, ltb}
 use lib.ListN.{length, getD, set, take, drop, length-append, length-set, List·getD-append}
@@ -178,7 +179,7 @@ module _ (cs : List Call) (k : Kept) (e : every notRead cs ≡ true) (sane : sou
     where
       go : Cases → Safe (bookOf kept) leaves (obey (isJoin q) (take n os) has-then)
       go (inl (p, l)) =
-          rw (p, l, in-step, take-none (isJoin q) n (storeOf (bookOf kept))) (end-safe (bookOf kept) (bookOf kept) sound-then)
+          rw (p, l, in-step, take-none (isJoin q) n (storeOf (bookOf kept))) (end-safe (bookOf kept) (bookOf kept) sound-then (le-refl (length (bookOf kept .resources))))
       go (inr (r, p, l)) = rw (p, l, in-step) (safe-at-every-stop (kept .tables) (bookOf kept) (rowsLent list) q r n)
 
   -- every folder but the one that is named
@@ -224,7 +225,7 @@ one-stop-safe : (q : Asked) (h : Head) (t : Tables) (list rest : List ℕ) (n : 
     → Safe (bookIn h t) (bookOf (keptOne q h t list)) (obeyOne q n (take (one q h t list .count * 3) (one q h t list .orders) ++ rest) (storeOf (bookIn h t)))
 unfolding obeyOne bookOf stopped ordersIn one refusedOne change changeBy changeOne
 one-stop-safe (opens u r) h t list rest n s l =
-    subst (λ (k : Kept). Safe (bookIn h t) (bookOf k) (storeOf (bookIn h t))) (sym (one-open u r h t list)) (end-safe (bookIn h t) (bookIn h t) s)
+    subst (λ (k : Kept). Safe (bookIn h t) (bookOf k) (storeOf (bookIn h t))) (sym (one-open u r h t list)) (end-safe (bookIn h t) (bookIn h t) s (le-refl (length (bookIn h t .resources))))
 one-stop-safe nothing h t list rest n s l = absurd (omega arith)
 one-stop-safe (changes q) h t list rest n s l = go (refusal t b (rowsLent list) q) refl l
   where
@@ -258,7 +259,7 @@ pub some-stop-safe : (qs : List Asked) (h : Head) (t : Tables) (list behind : Li
     → let bs = booksAt qs h t list n in
     Safe (bs .0) (bs .1) (obeySome qs (all qs h t list .answers ++ behind) (all qs h t list .orders) n (storeOf (bookIn h t)))
 unfolding booksAt obeySome all bookOf
-some-stop-safe [] h t list behind n s = end-safe (bookIn h t) (bookIn h t) s
+some-stop-safe [] h t list behind n s = end-safe (bookIn h t) (bookIn h t) s (le-refl (length (bookIn h t .resources)))
 some-stop-safe (q ∷ qs) h t list behind n s =
     go (one-counted q h t list)
     (some-stop-safe qs (one q h t list .head) (one q h t list .tables) (drop (one q h t list .count * 3) (one q h t list .orders)) behind (n - one q h t list .count)
