@@ -43,7 +43,7 @@ use Rattle.theorems.proofs.StopLaws.{old-list, end-safe}
 use Rattle.theorems.proofs.SafeLaws.{safe-at-every-stop}
 use Rattle.theorems.proofs.AgainLaws.{restarts, finishes}
 
--- ---- "every other encrypted folder opens for exactly its list"
+-- ---- "every encrypted folder but the one that the request names opens for exactly its list"
 
 -- a request leaves the lists of the folders that it does not name
 others-same : (q : Request) (b : Book) (r : ℕ) → names q b r ≡ false → r < length (work q b .book .resources)
