@@ -276,12 +276,6 @@ class Storage:
         file = self.waiting / str(folder)
         return outer_from(file.read_bytes()) if file.exists() else None
 
-    def check_arrived(self) -> None:
-        """A lock that waits for a folder when all orders are obeyed: the folder was lost."""
-        for file in self.waiting.iterdir():
-            if not self.has(int(file.name)):
-                raise Damaged(f"folder {file.name} is not in the storage")
-
     def around(self, bare: Locked, outer: Optional[int]) -> Locked:
         return bare if outer is None else bare.with_outer(outer, self.keys.key(outer))
 
@@ -465,7 +459,6 @@ class Host:
             for order in self.pending.orders:
                 self.obey(order, self.pending)
                 self.disk.stop("obeyed", self.root)
-            self.storage.check_arrived()
             self.keep(self.book, None)
         self.clear()
 
@@ -493,6 +486,7 @@ class Host:
         elif kind == Kind.OUTER_TOKEN:
             self.storage.outer_token(a, b)
         elif kind == Kind.LOCK:
+            self.check_there(a, pending)
             self.storage.lock(a, None if b == NO_OUTER else b)
         elif kind == Kind.INNER_KEY:
             self.owner.keys.make(a)
@@ -503,6 +497,11 @@ class Host:
             self.owner.access_token(a, b)
         else:
             self.owner.encrypt(a, b)
+
+    def check_there(self, folder: int, pending: Pending) -> None:
+        """Only the folder that an insert brings is locked before it is there. Any other was lost, and no order behind is obeyed: a token would open it when it comes back."""
+        if not self.storage.has(folder) and (pending.word, pending.number) != ("insert", folder):
+            raise Damaged(f"folder {folder} is not in the storage")
 
     def hand(self, pending: Pending, layer: str, key: bytes) -> None:
         """The keys that a join makes are the new user's own; all others stay here."""

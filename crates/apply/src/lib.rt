@@ -1,4 +1,4 @@
-// Applying a request that no refusal stops: the rows and the orders, in the order that the orders are given.
+// Applying a request that no refusal stops: the rows, and the orders in the order of RULES 6.2.
 // The five tables are iv, it, ov, ot, rs: inner vertices and tokens, outer vertices and tokens, resources.
 use crate::grant::apply_grant;
 use crate::step::Step;

@@ -1,21 +1,23 @@
 -- Hosts that obey, run from the definitions: what they have after the runs of P1 to P10, which orders cannot be obeyed then, and what they have where they
 -- stop in P3 and go on. A row: what the definitions give, and what it should be.
 -- Assumes nothing.
-use Prim.Native.Nat.{ℕ}
-use mathlib.Core.Path.{refl}
-use mathlib.Core.Bool.{false}
+use Prim.Native.Nat.{ℕ, _<_}
+use mathlib.Core.Path.{_≡_, refl, sym, _∙_}
+use mathlib.Core.Bool.{true, false, true≢false}
+use mathlib.Core.Logic.{_⊎_, inl, inr}
 use mathlib.Core.List.{List, [], _∷_, _++_, map, flatMap, List·Memᴰ·head, List·Memᴰ·tail}
 use native.Mathlib.Omega.{arith}
 use lib.ListN.{length, take}
-use Rattle.sets.specs.Sets.{sizeIn, size}
+use Rattle.sets.specs.Sets.{has, sizeIn, size}
 use Rattle.rules.specs.Lists.{every, some, keep, first, numbered, tabulateFrom, tabulate, upTo}
 use Rattle.rules.specs.Layer.{setOf, token, ofSize, bySize, takes, cover, vertexFor, found, withVertex}
 use Rattle.rules.specs.Book.{Book, emptyLayer, emptyBook, resource, hasOuter, withInner, withOuter, withResources, withList, withLock}
 use Rattle.rules.specs.Holders.{into, sources, byToken, holders, holdersOf}
 use Rattle.rules.specs.Sound.{otherRow, lockedFor}
 use Rattle.rules.specs.Requests.{done, order, _then_, vertexOrders, innerVertex, outerVertex, relock, lock, unlock, lockList, agrees, withSet, join, encrypt, lockNew, insert, letIn, neighbours, grouped, lockAll, settle, toldLast, lockNear, grant, revoke}
-use Rattle.rules.specs.Refusals.{Request, grants, work}
+use Rattle.rules.specs.Refusals.{Request, inserts, grants, revokes, work}
 use Rattle.rules.specs.Host.{Graph, Store, hasKey, addKey, addToken, putInner, putOuter, putKeys, putLock, spoil, canObey, made, obeyed, obey, hasToken, isThere, again, obeyAgain, restarted, isJoin, nothingMade, emptyStore, start, given, HostOpens}
+use Rattle.rules.specs.Stops.{oldList, Safe}
 use Rattle.rules.specs.Numbers.{Right, bit, after, deltaRun, fullRun}
 use Rattle.rules.specs.declared.Order.{Order}
 
@@ -63,12 +65,20 @@ p3 = work (grants 0 2) (after (take 5 deltaRun) (emptyBook 1)) .orders
 unfoldable pub atStop : ℕ → List ℕ
 atStop k = let s = obey false (take k p3) before in s .lock 1 ∷ length (s .inner .tokens) ∷ []
 
+-- all that a host has, with the locks of folders 0 and 1, in numbers
 unfoldable pub all : Store → List ℕ
 all s = inNumbers (s .inner) ++ (inNumbers (s .outer) ++ (s .keys ++ (s .lock 0 ∷ s .lock 1 ∷ bit (s .spoilt) ∷ [])))
 
+-- after P3
 unfoldable pub afterP3 : List ℕ
 afterP3 =
     0 ∷ 1 ∷ 2 ∷ 3 ∷ 0 ∷ 3 ∷ 0 ∷ 1 ∷ 3 ∷ 0 ∷ 2 ∷ 3 ∷ 1 ∷ 0 ∷ 1 ∷ 2 ∷ 0 ∷ 1 ∷ 2 ∷ 3 ∷ 0 ∷ 3 ∷ 0 ∷ 1 ∷ 3 ∷ 0 ∷ 0 ∷ 1 ∷ 2 ∷ 3 ∷ 3 ∷ 65535 ∷ 3 ∷ 0 ∷ []
+
+unfoldable pub p5 : List Order
+p5 = work (revokes 0 1) (after (take 6 deltaRun) (emptyBook 1)) .orders
+
+unfoldable pub afterP6 : Store
+afterP6 = hostRun (take 8 deltaRun) (emptyBook 1) emptyStore
 
 unfoldable pub hosts : List (List ℕ × List ℕ)
 hosts =
@@ -89,10 +99,12 @@ hosts =
     ∷ (all (obeyAgain false p3 (obey false p3 before)), afterP3)
     -- orders that are obeyed twice as if they were new
     ∷ (bit (obey false p3 (obey false (take 1 p3) before) .spoilt) ∷ [], 1 ∷ [])
+    -- RULES 6.7 "a lock that has been changed since would come back": P5 obeyed again when P6 has taken the lock of folder 0 off
+    ∷ (afterP6 .lock 0 ∷ obeyAgain false p5 afterP6 .lock 0 ∷ [], 65535 ∷ 4 ∷ [])
     ∷ []
 
 pub host-examples : Right hosts
-unfolding Right bit hosts hostRun deltaHost fullHost inNumbers spoils unobeyable obeyable before p3 atStop all afterP3 after deltaRun fullRun work flatMap
+unfolding Right bit hosts hostRun deltaHost fullHost inNumbers spoils unobeyable obeyable before p3 atStop all afterP3 p5 afterP6 after deltaRun fullRun work flatMap
     hasKey addKey addToken putInner putOuter putKeys putLock spoil canObey made obeyed obey isJoin nothingMade emptyStore
     hasToken otherRow isThere again obeyAgain restarted
     sizeIn size every some keep first numbered tabulateFrom tabulate upTo
@@ -101,13 +113,16 @@ unfolding Right bit hosts hostRun deltaHost fullHost inNumbers spoils unobeyable
     into sources byToken holders holdersOf lockedFor
     done _then_ vertexOrders innerVertex outerVertex relock lock unlock lockList agrees withSet join encrypt lockNew insert
     letIn neighbours grouped lockAll settle toldLast lockNear grant revoke
-host-examples = (refl, (refl, (refl, (refl, (refl, (refl, (refl, (refl, (refl, (refl, (refl, (refl, tt))))))))))))
+host-examples = (refl, (refl, (refl, (refl, (refl, (refl, (refl, (refl, (refl, (refl, (refl, (refl, (refl, tt)))))))))))))
 
 -- ---- other orders of the orders let somebody in
 
 -- RULES 6.6 "if the token were published first, folder 1 would open for 2": after the token and the three orders before the lock
-pub token-first-opens : HostOpens (obey false (order 6 2 3 ∷ take 3 p3) before) 2 1
-unfolding hostRun before p3 after deltaRun work
+unfoldable pub tokenFirst : Store
+tokenFirst = obey false (order 6 2 3 ∷ take 3 p3) before
+
+pub token-first-opens : HostOpens tokenFirst 2 1
+unfolding tokenFirst hostRun before p3 after deltaRun work
     hasKey addKey addToken putInner putOuter putKeys putLock canObey made obeyed obey isJoin nothingMade emptyStore
     sizeIn size some keep first numbered tabulateFrom tabulate upTo setOf ofSize bySize takes cover vertexFor found withVertex
     emptyLayer emptyBook resource hasOuter withInner withOuter withResources withList withLock into sources byToken holders holdersOf lockedFor
@@ -116,11 +131,44 @@ unfolding hostRun before p3 after deltaRun work
 token-first-opens = record { bel = given {t = token 2 3 1} (List·Memᴰ·tail (List·Memᴰ·tail (List·Memᴰ·head refl))) refl (start (omega arith)); sel = λ n. absurd (n refl) }
 
 -- RULES 12.6, H: a third folder for {0, 1}, encrypted before its lock, opens for 2
-pub encrypted-first-opens : HostOpens (obey false (order 7 2 3 ∷ []) (hostRun (take 6 deltaRun) (emptyBook 1) emptyStore)) 2 2
-unfolding hostRun before p3 after deltaRun work
+unfoldable pub encryptedFirst : Store
+encryptedFirst = obey false (order 7 2 3 ∷ []) (hostRun (take 6 deltaRun) (emptyBook 1) emptyStore)
+
+pub encrypted-first-opens : HostOpens encryptedFirst 2 2
+unfolding encryptedFirst hostRun before p3 after deltaRun work
     hasKey addKey addToken putInner putOuter putKeys putLock canObey made obeyed obey isJoin nothingMade emptyStore
     sizeIn size some keep first numbered tabulateFrom tabulate upTo setOf ofSize bySize takes cover vertexFor found withVertex
     emptyLayer emptyBook resource hasOuter withInner withOuter withResources withList withLock into sources byToken holders holdersOf lockedFor
     done _then_ vertexOrders innerVertex outerVertex relock lock unlock lockList agrees withSet join encrypt lockNew insert
     letIn neighbours grouped lockAll settle toldLast lockNear grant
 encrypted-first-opens = record { bel = given {t = token 2 3 1} (List·Memᴰ·tail (List·Memᴰ·tail (List·Memᴰ·head refl))) refl (start (omega arith)); sel = λ n. absurd (n refl) }
+
+-- 2 is on neither list
+neither : (b c : Book) (s : Store) (r : ℕ) → r < length (s .keys) → HostOpens s 2 r → has (oldList b c r) 2 ≡ false → has (resource c r .list) 2 ≡ false → Safe b c s → ⊥
+neither b c s r l o x y m = go (m .opens-only r l 2 o)
+  where
+    go : (has (oldList b c r) 2 ≡ true) ⊎ (has (resource c r .list) 2 ≡ true) → ⊥
+    go (inl e) = true≢false (sym e ∙ x)
+    go (inr e) = true≢false (sym e ∙ y)
+
+pub token-first-unsafe : let b = after (take 5 deltaRun) (emptyBook 1) in Safe b (work (grants 0 2) b .book) tokenFirst → ⊥
+unfolding tokenFirst oldList hostRun before p3 after deltaRun work
+    hasKey addKey addToken putInner putOuter putKeys putLock canObey made obeyed obey isJoin nothingMade emptyStore
+    sizeIn size some keep first numbered tabulateFrom tabulate upTo setOf ofSize bySize takes cover vertexFor found withVertex
+    emptyLayer emptyBook resource hasOuter withInner withOuter withResources withList withLock into sources byToken holders holdersOf lockedFor
+    done _then_ vertexOrders innerVertex outerVertex relock lock unlock lockList agrees withSet join encrypt lockNew insert
+    letIn neighbours grouped lockAll settle toldLast lockNear grant
+token-first-unsafe =
+    let b = after (take 5 deltaRun) (emptyBook 1) in
+    neither b (work (grants 0 2) b .book) tokenFirst 1 (omega arith) token-first-opens refl refl
+
+pub encrypted-first-unsafe : let b = after (take 6 deltaRun) (emptyBook 1) in Safe b (work (inserts 3) b .book) encryptedFirst → ⊥
+unfolding encryptedFirst oldList hostRun before p3 after deltaRun work
+    hasKey addKey addToken putInner putOuter putKeys putLock canObey made obeyed obey isJoin nothingMade emptyStore
+    sizeIn size some keep first numbered tabulateFrom tabulate upTo setOf ofSize bySize takes cover vertexFor found withVertex
+    emptyLayer emptyBook resource hasOuter withInner withOuter withResources withList withLock into sources byToken holders holdersOf lockedFor
+    done _then_ vertexOrders innerVertex outerVertex relock lock unlock lockList agrees withSet join encrypt lockNew insert
+    letIn neighbours grouped lockAll settle toldLast lockNear grant
+encrypted-first-unsafe =
+    let b = after (take 6 deltaRun) (emptyBook 1) in
+    neither b (work (inserts 3) b .book) encryptedFirst 2 (omega arith) encrypted-first-opens refl refl

@@ -1,5 +1,5 @@
 -- A host may stop anywhere in a request's orders (RULES 6.6): every other encrypted folder opens for exactly its list, and the one that the request names for
--- all on both the old and the new list and for none on neither. Each request, and runs of calls.
+-- all on both the old and the new list and for none on neither. Each request; StoppedLaws has runs of calls.
 -- Assumes nothing.
 use Prim.Native.Nat.{ℕ, zero, suc, _+_, _≤_, _<_}
 use mathlib.Core.Path.{_≡_, refl, sym, ap, _∙_, subst}

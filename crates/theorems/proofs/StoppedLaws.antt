@@ -1,5 +1,5 @@
--- A host that stops in the orders of the last call of a run, and goes on: RULES 6.6 "after any run of calls whose orders were all obeyed", and 6.7. On the
--- rows that the call gave, whether it was accepted or refused, by itself or one of several.
+-- A host that stops in the orders of the last call of a run, and goes on: RULES 6.6 "after any run of calls without a read", and 6.7. On the rows that the
+-- call gave, whether it was accepted or refused, by itself or one of several.
 -- Assumes nothing.
 use Prim.Native.Nat.{ℕ, zero, suc, _+_, _-_, _*_, _≤_, _<_}
 use mathlib.Core.Path.{_≡_, refl, sym, ap, _∙_, subst}
@@ -311,3 +311,18 @@ run-serve-stop-safe cs k e sane requests answers list n h =
   where
     a : All
     a = all (askedIn requests) (run cs k .head) (run cs k .tables) list
+
+-- a folder whose list that request leaves
+pub run-serve-others-exact : (cs : List Call) (k : Kept) → every notRead cs ≡ true → sound (bookOf k) ≡ true → (requests answers list : List ℕ) (n : ℕ)
+    → let now = run cs k in
+    let c = serveCall requests (now .head) (now .tables) answers list in
+    let bs = booksAt (askedIn requests) (now .head) (now .tables) list n in
+    let s = obeySome (askedIn requests) (c .answers) (c .orders) n (obeyRun cs k (storeOf (bookOf k))) in
+    refusalServe (now .tables) (bookOf now) requests answers ≡ none → (r : ℕ) → r < length (s .keys) → r < length (bs .0 .resources)
+    → resource (bs .1) r .list ≡ resource (bs .0) r .list → (u : ℕ) → HostOpens s u r ↔ (has (resource (bs .0) r .list) u ≡ true)
+run-serve-others-exact cs k e sane requests answers list n h r l m p u =
+    let now = run cs k in
+    let c = serveCall requests (now .head) (now .tables) answers list in
+    let bs = booksAt (askedIn requests) (now .head) (now .tables) list n in
+    safe-exact (bs .0) (bs .1) (obeySome (askedIn requests) (c .answers) (c .orders) n (obeyRun cs k (storeOf (bookOf k))))
+    (run-serve-stop-safe cs k e sane requests answers list n h) r l m p u
