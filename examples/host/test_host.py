@@ -254,21 +254,6 @@ class Hosts(Case):
         self.assertEqual(self.everybody(), [{0, 1}, {1}, {1}])
         self.assertEqual(list((self.root / "storage" / "waiting").iterdir()), [])
 
-    def test_neighbour_lost(self) -> None:
-        """A grant that can't lock its neighbour stops there: its token, which would open the neighbour when it comes back, is not published."""
-        with Host(self.root) as host:
-            lost, granted = host.insert({0, 2}, b"lost"), host.insert({0, 2}, b"granted")
-            there = self.file(lost).read_bytes()
-            self.file(lost).unlink()
-            tokens = {file.name for file in self.token("").iterdir() if file.name.endswith("-access")}
-            self.assertRaises(Damaged, host.grant, granted, 1)
-        self.assertRaises(Damaged, Host, self.root)
-        self.assertEqual({file.name for file in self.token("").iterdir() if file.name.endswith("-access")}, tokens)
-        self.file(lost).write_bytes(there)
-        self.assertEqual(self.everybody(), [{0, 1, 2, 3}, {0, 1}, {1, 2, 3}])
-        with Host(self.root):
-            self.assertEqual(self.everybody(), [{0, 1, 2, 3}, {0, 1, 3}, {1, 2, 3}])
-
     def test_handed_key_damaged(self) -> None:
         for layer in ("inner", "outer"):
             file = self.root / "people" / "0" / layer
@@ -345,6 +330,25 @@ class Hosts(Case):
             for folder in range(2, after.book.folders):
                 self.assertEqual([after.read(0, folder), after.read(2, folder)], [b"more"] * 2)
         self.assertEqual(set(brute.open_all(self.root, 1)), {0, 1})
+
+
+class Neighbours(Case):
+    """A grant that has a neighbour to lock, in mode delta."""
+
+    def test_neighbour_lost(self) -> None:
+        """A grant that can't lock its neighbour stops there: its token, which would open the neighbour when it comes back, is not published."""
+        with Host(self.root) as host:
+            lost, granted = host.insert({0, 2}, b"lost"), host.insert({0, 2}, b"granted")
+            there = self.file(lost).read_bytes()
+            self.file(lost).unlink()
+            tokens = {file.name for file in self.token("").iterdir() if file.name.endswith("-access")}
+            self.assertRaises(Damaged, host.grant, granted, 1)
+        self.assertRaises(Damaged, Host, self.root)
+        self.assertEqual({file.name for file in self.token("").iterdir() if file.name.endswith("-access")}, tokens)
+        self.file(lost).write_bytes(there)
+        self.assertEqual(self.everybody(), [{0, 1, 2, 3}, {0, 1}, {1, 2, 3}])
+        with Host(self.root):
+            self.assertEqual(self.everybody(), [{0, 1, 2, 3}, {0, 1, 3}, {1, 2, 3}])
 
 
 class Arrivals(Case):
