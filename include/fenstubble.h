@@ -87,10 +87,10 @@
  * its list, and the folder that the request names for all who are on its list both before and after the request, and for nobody who is on neither. A
  * new folder counts once it is encrypted (RULES 6.6). This rests on the order of the rows, and on the host:
  *   - The new book and its orders are kept together, in one step (one file replaced, one transaction), before the first order is obeyed. A host that
- *     was stopped obeys them all again, from the first. What an order asks for and is there already stays as it is: a key, a token, a lock, a folder.
- *     Then the same holds on the way, also if it stops again, and at the end the host has what the new book says (RULES 6.7). Of several requests in one
- *     call (fenstubble_serve) each is obeyed so by itself: the host notes when one is done, and after a stop begins with the first that is not. If it
- *     began with an earlier one, a lock that has been changed since would come back for a while.
+ *     was stopped obeys them all again, from the first, before it asks for anything else. What an order asks for and is there already stays as it is: a
+ *     key, a token, a lock, a folder. Then the same holds on the way, also if it stops again, and at the end the host has what the new book says (RULES
+ *     6.7). Of several requests in one call (fenstubble_serve) each is obeyed so by itself: the host notes when one is done, and after a stop begins
+ *     with the first that is not. If it began with an earlier one, a lock that has been changed since would come back for a while.
  *   - Each order is obeyed as a whole or not at all. A 3 exchanges one lock for another in one step: while the old one is off and the new one is not on
  *     yet, the folder would be open to all who have its inner key.
  *   - An insert asks for the lock of its folder before the folder is there: 3, then 7. The host keeps the lock in mind, and at the 7 it stores the
