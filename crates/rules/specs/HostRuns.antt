@@ -115,41 +115,18 @@ unfolding Right bit hosts hostRun deltaHost fullHost inNumbers spoils unobeyable
     letIn neighbours grouped lockAll settle toldLast lockNear grant revoke
 host-examples = (refl, (refl, (refl, (refl, (refl, (refl, (refl, (refl, (refl, (refl, (refl, (refl, (refl, tt)))))))))))))
 
--- ---- other orders of the orders let somebody in
+-- ---- other orders of the orders let somebody in: user 2, who is on neither list
 
--- RULES 6.6 "if the token were published first, folder 1 would open for 2": after the token and the three orders before the lock
-unfoldable pub tokenFirst : Store
-tokenFirst = obey false (order 6 2 3 ∷ take 3 p3) before
-
-pub token-first-opens : HostOpens tokenFirst 2 1
-unfolding tokenFirst hostRun before p3 after deltaRun work
-    hasKey addKey addToken putInner putOuter putKeys putLock canObey made obeyed obey isJoin nothingMade emptyStore
-    sizeIn size some keep first numbered tabulateFrom tabulate upTo setOf ofSize bySize takes cover vertexFor found withVertex
-    emptyLayer emptyBook resource hasOuter withInner withOuter withResources withList withLock into sources byToken holders holdersOf lockedFor
-    done _then_ vertexOrders innerVertex outerVertex relock lock unlock lockList agrees withSet join encrypt lockNew insert
-    letIn neighbours grouped lockAll settle toldLast lockNear grant
-token-first-opens = record { bel = given {t = token 2 3 1} (List·Memᴰ·tail (List·Memᴰ·tail (List·Memᴰ·head refl))) refl (start (omega arith)); sel = λ n. absurd (n refl) }
-
--- RULES 12.6, H: a third folder for {0, 1}, encrypted before its lock, opens for 2
-unfoldable pub encryptedFirst : Store
-encryptedFirst = obey false (order 7 2 3 ∷ []) (hostRun (take 6 deltaRun) (emptyBook 1) emptyStore)
-
-pub encrypted-first-opens : HostOpens encryptedFirst 2 2
-unfolding encryptedFirst hostRun before p3 after deltaRun work
-    hasKey addKey addToken putInner putOuter putKeys putLock canObey made obeyed obey isJoin nothingMade emptyStore
-    sizeIn size some keep first numbered tabulateFrom tabulate upTo setOf ofSize bySize takes cover vertexFor found withVertex
-    emptyLayer emptyBook resource hasOuter withInner withOuter withResources withList withLock into sources byToken holders holdersOf lockedFor
-    done _then_ vertexOrders innerVertex outerVertex relock lock unlock lockList agrees withSet join encrypt lockNew insert
-    letIn neighbours grouped lockAll settle toldLast lockNear grant
-encrypted-first-opens = record { bel = given {t = token 2 3 1} (List·Memᴰ·tail (List·Memᴰ·tail (List·Memᴰ·head refl))) refl (start (omega arith)); sel = λ n. absurd (n refl) }
-
--- 2 is on neither list
-neither : (b c : Book) (s : Store) (r : ℕ) → r < length (s .keys) → HostOpens s 2 r → has (oldList b c r) 2 ≡ false → has (resource c r .list) 2 ≡ false → Safe b c s → ⊥
-neither b c s r l o x y m = go (m .opens-only r l 2 o)
+neither : (b c : Book) (s : Store) (r : ℕ) → r < length (s .keys) → has (oldList b c r) 2 ≡ false → has (resource c r .list) 2 ≡ false → HostOpens s 2 r → Safe b c s → ⊥
+neither b c s r l x y o m = go (m .opens-only r l 2 o)
   where
     go : (has (oldList b c r) 2 ≡ true) ⊎ (has (resource c r .list) 2 ≡ true) → ⊥
     go (inl e) = true≢false (sym e ∙ x)
     go (inr e) = true≢false (sym e ∙ y)
+
+-- RULES 6.6 "if the token were published first, folder 1 would open for 2": after the token and the three orders before the lock
+unfoldable pub tokenFirst : Store
+tokenFirst = obey false (order 6 2 3 ∷ take 3 p3) before
 
 pub token-first-unsafe : let b = after (take 5 deltaRun) (emptyBook 1) in Safe b (work (grants 0 2) b .book) tokenFirst → ⊥
 unfolding tokenFirst oldList hostRun before p3 after deltaRun work
@@ -160,10 +137,15 @@ unfolding tokenFirst oldList hostRun before p3 after deltaRun work
     letIn neighbours grouped lockAll settle toldLast lockNear grant
 token-first-unsafe =
     let b = after (take 5 deltaRun) (emptyBook 1) in
-    neither b (work (grants 0 2) b .book) tokenFirst 1 (omega arith) token-first-opens refl refl
+    neither b (work (grants 0 2) b .book) tokenFirst 1 (omega arith) refl refl
+    (record { bel = given {t = token 2 3 1} (List·Memᴰ·tail (List·Memᴰ·tail (List·Memᴰ·head refl))) refl (start (omega arith)); sel = λ n. absurd (n refl) })
+
+-- RULES 12.6, H: a third folder for {0, 1}, encrypted before its lock, opens for 2
+unfoldable pub encryptedFirst : Store
+encryptedFirst = obey false (order 7 2 3 ∷ []) (hostRun (take 6 deltaRun) (emptyBook 1) emptyStore)
 
 pub encrypted-first-unsafe : let b = after (take 6 deltaRun) (emptyBook 1) in Safe b (work (inserts 3) b .book) encryptedFirst → ⊥
-unfolding encryptedFirst oldList hostRun before p3 after deltaRun work
+unfolding encryptedFirst oldList hostRun after deltaRun work
     hasKey addKey addToken putInner putOuter putKeys putLock canObey made obeyed obey isJoin nothingMade emptyStore
     sizeIn size some keep first numbered tabulateFrom tabulate upTo setOf ofSize bySize takes cover vertexFor found withVertex
     emptyLayer emptyBook resource hasOuter withInner withOuter withResources withList withLock into sources byToken holders holdersOf lockedFor
@@ -171,4 +153,5 @@ unfolding encryptedFirst oldList hostRun before p3 after deltaRun work
     letIn neighbours grouped lockAll settle toldLast lockNear grant
 encrypted-first-unsafe =
     let b = after (take 6 deltaRun) (emptyBook 1) in
-    neither b (work (inserts 3) b .book) encryptedFirst 2 (omega arith) encrypted-first-opens refl refl
+    neither b (work (inserts 3) b .book) encryptedFirst 2 (omega arith) refl refl
+    (record { bel = given {t = token 2 3 1} (List·Memᴰ·tail (List·Memᴰ·tail (List·Memᴰ·head refl))) refl (start (omega arith)); sel = λ n. absurd (n refl) })
