@@ -9,7 +9,7 @@ use lib.Dec.{eqb, ltb}
 use lib.ListN.{length, getD, take, drop}
 use Rattle.sets.specs.Sets.{has}
 use Rattle.rules.specs.Book.{Book, resource}
-use Rattle.rules.specs.Refusals.{Request, joins, inserts, grants, revokes, work}
+use Rattle.rules.specs.Refusals.{Request, joins, inserts, grants, revokes, leaves, work}
 use Rattle.rules.specs.Bytes.{Tables, bookIn}
 use Rattle.rules.specs.Calls.{change, ordersIn, Asked, one}
 use Rattle.rules.specs.Runs.{Kept}
@@ -36,12 +36,13 @@ pub record Safe (b c : Book) (s : Store) : Type 0 where
 unfoldable pub stopped : Request → Book → ℕ → Store → Store
 stopped q b k s = obey (isJoin q) (take k (work q b .orders)) s
 
--- the folder that a request names
-unfoldable pub names : Request → Book → ℕ → Bool
-names joins b r = false
-names (inserts l) b r = eqb r (length (b .resources))
-names (grants i u) b r = eqb r i
-names (revokes i u) b r = eqb r i
+-- the folders that a request changes: "the folder that an insert, a grant or a revoke names; for a leave each folder that lists the leaver"
+unfoldable pub alters : Request → Book → ℕ → Bool
+alters joins b r = false
+alters (inserts l) b r = eqb r (length (b .resources))
+alters (grants i u) b r = eqb r i
+alters (revokes i u) b r = eqb r i
+alters (leaves u) b r = has (resource b r .list) u
 
 -- ---- the orders as a call gave them: its rows in the list lent, none where it refused
 
