@@ -28,7 +28,7 @@ pub each-table : {iv it ov ot rs iv′ it′ ov′ ot′ rs′ : List ℕ} → t
 each-table e =
     (ap (λ (t : Tables). t .innerVertices) e, ap (λ (t : Tables). t .innerTokens) e, ap (λ (t : Tables). t .outerVertices) e, ap (λ (t : Tables). t .outerTokens) e, ap (λ (t : Tables). t .resources) e)
 
--- join, insert, grant, revoke: answer, tables, order list
+-- join, insert, grant, revoke, leave: answer, tables, order list
 pub change-determined : (q : Request) (h : Head) (t : Tables) (list : List ℕ) {a a′ : Changed} {s s′ : Tables} {os os′ : List ℕ}
     → changing a s os ≡ change q h t list → changing a′ s′ os′ ≡ change q h t list
     → (a ≡ a′) × (s ≡ s′) × (os ≡ os′)

@@ -4,7 +4,7 @@ use Prim.Native.Nat.{ℕ}
 use mathlib.Core.Path.{_≡_, refl, sym, ap, ap₂, _∙_}
 use mathlib.Core.Bool.{Bool, true, false, _&&_, not, cond}
 use mathlib.Core.Logic.{_⊎_, inl, inr}
-use mathlib.Core.List.{List, [], _∷_, _++_, map, append-nil, append-assoc, List·Memᴰ, List·Memᴰ·not-nil, List·Memᴰ·eq-of-singleton, Memᴰ·cast}
+use mathlib.Core.List.{List, [], _∷_, _++_, map, append-nil, append-assoc, List·Memᴰ, List·Memᴰ·head, List·Memᴰ·tail, List·Memᴰ·not-nil, List·Memᴰ·eq-of-singleton, Memᴰ·cast}
 use lib.Dec.{eqb}
 use lib.ListN.{length}
 use borrow.Author.Tests.{ne-eqb}
@@ -16,10 +16,12 @@ use Rattle.rules.specs.Book as book
 use Rattle.rules.specs.Book.{Book, resource, hasOuter, withInner, withList}
 use Rattle.rules.specs.Holders.{holdersOf}
 use Rattle.rules.specs.Sound.{lockedFor, unequal, sound}
-use Rattle.rules.specs.Requests.{Done, done, order, _then_, toldLast, vertexOrders, innerVertex, outerVertex, relock, lock, unlock, lockList, agrees, encrypt, lockNew, insert, letIn, settle, join, revoke}
-use Rattle.rules.specs.Refusals.{Request, joins, inserts, grants, revokes, work}
+use Rattle.rules.specs.Requests.{Done, done, order, _then_, toldLast, vertexOrders, innerVertex, outerVertex, relock, lock, unlock, lockList, agrees, encrypt, lockNew, insert, letIn, settle, join, revoke, naming, revokeAll}
+use Rattle.rules.specs.Refusals.{Request, joins, inserts, grants, revokes, leaves, work}
 use Rattle.theorems.specs.Plan.{grantedList, revokedList, waiters, lockGroup}
-use Rattle.theorems.proofs.ListLaws.{pairwise-append}
+use Rattle.sets.proofs.Laws.{both}
+use Rattle.theorems.proofs.ListLaws.{pairwise-append, every-mem, mem-every}
+use Rattle.theorems.proofs.LeaveLaws.{leave-given, naming-run}
 use Rattle.theorems.proofs.RequestLaws.{Allowed}
 use Rattle.theorems.proofs.NeighbourLaws.{letInBook}
 use Rattle.theorems.proofs.GroupLaws.{group-orders, grant-group, waiters-mem, waiters-apart}
@@ -136,6 +138,38 @@ insert-once l b = go (lockNew-once r e)
     go (inl p) = inl (same ∙ p)
     go (inr p) = inr (same ∙ p)
 
+-- a revoke each: a lock of each at most
+revokes-once : (u : ℕ) (rs : List ℕ) (b : Book) → pairwise unequal rs ≡ true
+    → let is = locksOf (revokeAll u rs b .orders) in (pairwise unequal is ≡ true) × ((i : ℕ) → List·Memᴰ i is → List·Memᴰ i rs)
+unfolding revokeAll revoke lockList _then_ done locksOf pairwise
+revokes-once u [] b h = (refl, λ i m. m)
+revokes-once u (r ∷ rs) b h = go (lock-once r (resource c r .list) c) (revokes-once u rs d (both (every (unequal r) rs) (pairwise unequal rs) h .1))
+  where
+    c : Book
+    c = withList b r (revokedList r u b)
+
+    d : Book
+    d = lock r (resource c r .list) c .book
+
+    os : List Order
+    os = lock r (resource c r .list) c .orders
+
+    ps : List Order
+    ps = revokeAll u rs d .orders
+
+    go : AtMost r os → (pairwise unequal (locksOf ps) ≡ true) × ((i : ℕ) → List·Memᴰ i (locksOf ps) → List·Memᴰ i rs)
+        → (pairwise unequal (locksOf (os ++ ps)) ≡ true) × ((i : ℕ) → List·Memᴰ i (locksOf (os ++ ps)) → List·Memᴰ i (r ∷ rs))
+    go (inl e) (p, f) = rw (locks-before os ps e) (p, λ i m. List·Memᴰ·tail (f i m))
+    go (inr e) (p, f) =
+        rw (locks-append os ps, e) (
+          rw p (ap (λ (z : Bool). z && true) (mem-every (unequal r) (locksOf ps) (λ i m. every-mem (unequal r) rs (both (every (unequal r) rs) (pairwise unequal rs) h .0) (f i m)))),
+          λ i m. there i m,
+        )
+      where
+        there : (i : ℕ) → List·Memᴰ i (r ∷ locksOf ps) → List·Memᴰ i (r ∷ rs)
+        there i (List·Memᴰ·head q) = List·Memᴰ·head q
+        there i (List·Memᴰ·tail m) = List·Memᴰ·tail (f i m)
+
 pub work-once : (q : Request) (b : Book) → sound b ≡ true → Allowed q b → pairwise unequal (locksOf (work q b .orders)) ≡ true
 unfolding work Allowed join revoke _then_ toldLast done lockList locksOf lockOf pairwise
 work-once joins b s a = refl
@@ -143,7 +177,9 @@ work-once (inserts l) b s a = one-lock (length (b .resources)) (insert l b .orde
 work-once (revokes r u) b s a =
     let c = withList b r (revokedList r u b) in
     one-lock r (lockList r c .orders) (work (revokes r u) b .orders) refl (lock-once r (resource c r .list) c)
-work-once (grants r u) b s (ul, rl, n) =
+work-once (leaves u) b s a =
+    ap (λ (os : List Order). pairwise unequal (locksOf os)) (leave-given u b) ∙ revokes-once u (naming u b) b (naming-run u b s .apart) .0
+work-once (grants r u) b s (ul, rl, g, n) =
     let c = letInBook r u b in
     let d = lockGroup (waiters b r u) (holdersOf b r) c in
     ap (λ (x : Done). pairwise unequal (locksOf (x .orders))) (grant-group b s r u rl ul)

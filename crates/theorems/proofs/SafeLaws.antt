@@ -1,40 +1,42 @@
--- A host may stop anywhere in a request's orders (RULES 6.6): every other encrypted folder opens for exactly its list, and the one that the request names for
--- all on both the old and the new list and for none on neither. Each request; StoppedLaws has runs of calls.
+-- A host may stop anywhere in a request's orders (RULES 6.6): every encrypted folder that the request does not change opens for exactly its list, and one
+-- that it changes for all on both the old and the new list and for none on neither. Each request; StoppedLaws has runs of calls.
 -- Assumes nothing.
 use Prim.Native.Nat.{ℕ, zero, suc, _+_, _≤_, _<_}
 use mathlib.Core.Path.{_≡_, refl, sym, ap, _∙_, subst}
 use mathlib.Core.Bool.{Bool, true, false, not}
 use mathlib.Core.Logic.{_⊎_, inl, inr, _≢_}
-use mathlib.Core.List.{List, [], _∷_, _++_, append-nil, append-assoc, List·Memᴰ, List·Memᴰ·not-nil, List·Memᴰ·eq-of-singleton, Memᴰ·append-left}
+use mathlib.Core.List.{List, [], _∷_, _++_, append-nil, append-assoc, List·Memᴰ, List·Memᴰ·not-nil, List·Memᴰ·eq-of-singleton, Memᴰ·append-left, List·Memᴰ·head, List·Memᴰ·tail}
 use mathlib.Core.Option as option
 use native.Mathlib.Omega.{arith}
 use lib.ListN.{length, getD, take, drop}
 use Rattle.sets.specs.Sets.{has, single, minus, within}
 use Rattle.sets.proofs.Laws.{both, has-within, has-minus}
 use Rattle.rules.specs.Layer.{Layer, vertexFor}
-use Rattle.rules.specs.Book.{Book, none, resource, withInner, withList, withResources}
+use Rattle.rules.specs.Book.{Book, none, resource, withInner, withList, withResources, Resource, withLeavers}
 use Rattle.rules.specs.Sound.{sound}
-use Rattle.rules.specs.Requests.{done, order, _then_, vertexOrders, innerVertex, lock, lockList, lockNew, lockAll, encrypt, letIn, neighbours, grouped, settle, toldLast, lockNear, join, insert, grant, revoke}
-use Rattle.rules.specs.Refusals.{Request, joins, inserts, grants, revokes, work, refusal}
+use Rattle.rules.specs.Requests.{done, order, _then_, vertexOrders, innerVertex, lock, lockList, lockNew, lockAll, encrypt, letIn, neighbours, grouped, settle, toldLast, lockNear, join, insert, grant, revoke, naming, revokeAll, gone, leave}
+use Rattle.rules.specs.Refusals.{Request, joins, inserts, grants, revokes, work, refusal, leaves}
 use Rattle.rules.specs.Runs.{Access, access, listed}
 use Rattle.rules.specs.Bytes.{Tables}
 use Rattle.rules.specs.Host.{Store, obey, isJoin, storeOf}
 use Rattle.rules.specs.Stops.{Safe, stopped}
 use Rattle.rules.specs.declared.Order.{Order}
-use Rattle.theorems.specs.Plan.{grantedList}
+use Rattle.theorems.specs.Plan.{grantedList, revokedList}
 use Rattle.theorems.proofs.LockLaws.{Kept, Relocked, lock-laws}
 use Rattle.theorems.proofs.RevokeLaws.{member, less-kept}
 use Rattle.theorems.proofs.GrantLaws.{Passed, neighbour-in-order, neighbour-open}
 use Rattle.theorems.proofs.NeighbourLaws.{Started, letInBook, Apart, grant-starts, room-for-all, grouped-fewer}
 use Rattle.theorems.proofs.GroupLaws.{lockedBook, run-passed}
-use Rattle.theorems.proofs.SoundLaws.{sound-kept, sound-counts}
-use Rattle.theorems.proofs.AccessLaws.{list-at, list-access, letIn-access, work-access}
+use Rattle.theorems.proofs.SoundLaws.{sound-kept}
+use Rattle.theorems.proofs.AccessLaws.{list-at, list-access, letIn-access, work-access, leave-list}
+use Rattle.theorems.proofs.PlanLaws.{row-listed}
+use Rattle.theorems.proofs.LeaveLaws.{Run, run-next, one-run, other, revoke-other, revoke-own, naming-run, leave-given}
 use Rattle.theorems.proofs.RequestLaws.{Allowed, accepted, work-sound}
-use Rattle.theorems.proofs.HostLaws.{Each, Outer, inward, same-half, other-half, unspoilt-before, Told, kept-standing, each-one, each-both, each-take, vertex-each, lockNew-each, lock-outer, lockNear-outer, letIn-orders, letIn-inner, withList-told, lockAll-told, letIn-told, obeyed-work, moved, lockAll-outer}
+use Rattle.theorems.proofs.HostLaws.{Each, Outer, inward, same-half, other-half, unspoilt-before, Told, kept-standing, each-one, each-both, each-take, vertex-each, lockNew-each, lock-outer, lockNear-outer, letIn-orders, letIn-inner, withList-told, lockAll-told, letIn-told, obeyed-work, moved, lockAll-outer, Standing, each-none}
 use Rattle.theorems.proofs.GrowLaws.{longer-length, lockOf, locksOf, Grows, stop-grows, obey-grows, rest-grows, obey-keys}
 use Rattle.theorems.proofs.HostOpensLaws.{keys-count}
 use Rattle.theorems.proofs.OnceLaws.{locks-append, AtMost, insert-once}
-use Rattle.theorems.proofs.StopLaws.{Through, through-take, through-append, through-end, Within, within-self, within-still, lock-within, lockAll-within, settle-within, Fine, at, lock-through, run-through, settle-through, fine-safe, still-safe, end-safe}
+use Rattle.theorems.proofs.StopLaws.{Through, through-take, through-append, through-end, Within, within-self, within-still, lock-within, lockAll-within, settle-within, Fine, at, lock-through, run-through, settle-through, fine-safe, still-safe, end-safe, lock-at, lock-fine}
 
 -- ---- a list of orders, of which at most one comes last
 
@@ -90,7 +92,7 @@ module _ (b c : Book) (hc : sound c ≡ true) (j : Bool) (os front last : List O
           (f n ps (subst (λ (l : List Order). Grows ps (S l) (storeOf c)) (to (take n front) e) behind)
           (subst (λ (l : List Order). S l .spoilt ≡ false) (to (take n front) e) sane))
 
--- ---- revoke and grant: before the last order there are orders of the outer layer alone
+-- ---- revokes and a grant: before the last order there are orders of the outer layer alone
 
 module _ (b c : Book) (hb : sound b ≡ true) (hc : sound c ≡ true) (os front last : List Order) (split : os ≡ front ++ last) (few : length last ≤ 1)
     (ends : obey false os (storeOf b) ≡ storeOf c) (outer : Each Outer front) (w : Within (b .outer) (c .outer)) (fine : Through (Fine b c) front (storeOf b)) where
@@ -110,53 +112,112 @@ begins b c r l = inl refl
 lists-after : (q : Request) (b m : Book) → access m ≡ listed q (access b) → (i : ℕ) → resource m i .list ≡ resource (work q b .book) i .list
 lists-after q b m e i = sym (list-at m i) ∙ ap (λ (a : Access). getD (a .lists) i 0) (e ∙ sym (work-access q b)) ∙ list-at (work q b .book) i
 
-module _ (b : Book) (hb : sound b ≡ true) (r u : ℕ) (l : r < length (b .resources)) where
-  abbrev less : ℕ
-  less = minus (resource b r .list) (single u)
+-- ---- revokes, one after the other, on the way from b to c
 
-  abbrev b1 : Book
-  b1 = withList b r less
+listed-outer : (m : Book) (r l : ℕ) → withList m r l .outer ≡ m .outer
+unfolding withList withResources
+listed-outer m r l = refl
 
-  outer1 : b1 .outer ≡ b .outer
-  unfolding withList withResources
-  outer1 = refl
-
+module _ (b c : Book) (u : ℕ) where
   -- a list changes nothing that the host has
-  listed-at : (c : Book) → at b c b1 ≡ storeOf b
+  listed-at : (m : Book) → Standing m → (r l : ℕ) → at b c (withList m r l) ≡ at b c m
   unfolding done obey inward storeOf
-  listed-at c = ap (inward (storeOf b .inner) (storeOf b .keys)) (sym (withList-told r less b (kept-standing b (sound-kept b hb)) .obeys))
+  listed-at m st r l = ap (inward (storeOf b .inner) (storeOf b .keys)) (sym (withList-told r l m st .obeys))
 
-  pub revoke-safe : sound (revoke r u b .book) ≡ true → obey false (revoke r u b .orders) (storeOf b) ≡ storeOf (revoke r u b .book)
-      → (k : ℕ) → Safe b (revoke r u b .book) (obey false (take k (revoke r u b .orders)) (storeOf b))
-  unfolding revoke _then_ done lockList
-  revoke-safe hc ends =
-      locks-safe b c hb hc os os [] (sym (append-nil os)) (omega arith) ends (lock-outer r s b1) (subst (λ (L : Layer). Within L (c .outer)) outer1 (lock-within r s b1))
-      (subst (Through (Fine b c) os) (listed-at c)
-      (lock-through b c b1 (kept-standing b1 k1) r s l1 q (sym (q .list)) (within-self (c .outer)) (subst (Fine b c) (sym (listed-at c)) (begins b c))))
+  revokeAll-within : (rs : List ℕ) (m : Book) → Within (m .outer) (revokeAll u rs m .book .outer)
+  unfolding revokeAll revoke lockList _then_ done withList withResources
+  revokeAll-within [] m = within-self (m .outer)
+  revokeAll-within (r ∷ rs) m =
+      let m1 = withList m r (revokedList r u m) in
+      within-still (lock-within r (resource m1 r .list) m1) (revokeAll-within rs (lock r (resource m1 r .list) m1 .book))
+
+  revokeAll-outer : (rs : List ℕ) (m : Book) → Each Outer (revokeAll u rs m .orders)
+  unfolding revokeAll revoke lockList _then_ done
+  revokeAll-outer [] m = each-none Outer
+  revokeAll-outer (r ∷ rs) m =
+      let m1 = withList m r (revokedList r u m) in
+      let d = lock r (resource m1 r .list) m1 in
+      each-both Outer (d .orders) (revokeAll u rs (d .book) .orders) (lock-outer r (resource m1 r .list) m1) (revokeAll-outer rs (d .book))
+
+  revokes-through : (rs : List ℕ) (m : Book) → Run u rs m → ((i : ℕ) → List·Memᴰ i rs → revokedList i u m ≡ resource c i .list)
+      → Within (revokeAll u rs m .book .outer) (c .outer) → Fine b c (at b c m) → Through (Fine b c) (revokeAll u rs m .orders) (at b c m)
+  unfolding revokeAll revoke lockList _then_ done Through
+  revokes-through [] m k e w f = f
+  revokes-through (r ∷ rs) m k e w f =
+      through-append (Fine b c) os (revokeAll u rs d .orders) (at b c m) (subst (Through (Fine b c) os) same (lock-through b c m1 st1 r s l1 q es wd f1))
+      (subst (Through (Fine b c) (revokeAll u rs d .orders)) (sym (ap (obey false os) (sym same) ∙ lock-at b c m1 st1 r s l1 q es wd f1))
+      (revokes-through rs d (run-next u r rs m k) (λ i n. ap (λ (x : ℕ). minus x (single u)) (revoke-other m r u i (other u r rs m k i n)) ∙ e i (List·Memᴰ·tail n)) w (lock-fine b c m1 st1 r s l1 q es wd f1)))
     where
+      less : ℕ
+      less = revokedList r u m
+
+      m1 : Book
+      m1 = withList m r less
+
       s : ℕ
-      s = resource b1 r .list
+      s = resource m1 r .list
 
       os : List Order
-      os = lock r s b1 .orders
+      os = lock r s m1 .orders
 
-      c : Book
-      c = lock r s b1 .book
+      d : Book
+      d = lock r s m1 .book
 
-      smaller : within less (resource b r .list) ≡ true
-      smaller = has-within less (resource b r .list) (λ v e. both (has (resource b r .list) v) (not (has (single u) v)) (sym (has-minus (resource b r .list) (single u) v) ∙ e) .0)
+      st : Standing m
+      st = kept-standing m (k .kept)
 
-      k1 : Kept b1
-      k1 = less-kept b (sound-kept b hb) r l less smaller (omega arith)
+      same : at b c m1 ≡ at b c m
+      same = listed-at m st r less
 
-      l1 : r < length (b1 .resources)
-      l1 = omega (arith, withList-told r less b (kept-standing b (sound-kept b hb)) .count)
+      l : r < length (m .resources)
+      l = k .there r (List·Memᴰ·head refl)
 
-      small : length (b1 .outer .sets) < none
-      small = let n = sound-counts b hb in omega (arith, ap (λ (L : Layer). length (L .sets)) outer1, n .outer≤, n .users≤)
+      smaller : within less (resource m r .list) ≡ true
+      smaller = has-within less (resource m r .list) (λ v e. both (has (resource m r .list) v) (not (has (single u) v)) (sym (has-minus (resource m r .list) (single u) v) ∙ e) .0)
 
-      q : Relocked b1 c r s
-      q = lock-laws b1 k1 r l1 s (k1 .list< (resource b1 r) (member b1 r l1)) small
+      k1 : Kept m1
+      k1 = less-kept m (k .kept) r l less smaller (omega arith)
+
+      st1 : Standing m1
+      st1 = kept-standing m1 k1
+
+      l1 : r < length (m1 .resources)
+      l1 = omega (arith, l, withList-told r less m st .count)
+
+      q : Relocked m1 d r s
+      q = lock-laws m1 k1 r l1 s (k1 .list< (resource m1 r) (member m1 r l1)) (omega (arith, k .small, ap (λ (L : Layer). length (L .sets)) (listed-outer m r less)))
+
+      es : s ≡ resource c r .list
+      es = ap (λ (x : Resource). x .list) (row-listed m r less l) ∙ e r (List·Memᴰ·head refl)
+
+      wd : Within (d .outer) (c .outer)
+      wd = within-still (revokeAll-within rs d) w
+
+      f1 : Fine b c (at b c m1)
+      f1 = subst (Fine b c) (sym same) f
+
+-- safe at every stop
+module _ (b c : Book) (hb : sound b ≡ true) (hc : sound c ≡ true) (u : ℕ) (rs : List ℕ) (k : Run u rs b) (outer : revokeAll u rs b .book .outer ≡ c .outer)
+    (lists : (i : ℕ) → List·Memᴰ i rs → revokedList i u b ≡ resource c i .list) (os : List Order) (given : os ≡ revokeAll u rs b .orders)
+    (ends : obey false os (storeOf b) ≡ storeOf c) where
+  pub revokes-safe : (n : ℕ) → Safe b c (obey false (take n os) (storeOf b))
+  unfolding inward storeOf
+  revokes-safe =
+      locks-safe b c hb hc os os [] (sym (append-nil os)) (omega arith) ends (subst (Each Outer) (sym given) (revokeAll-outer b c u rs b))
+      (subst (Within (b .outer)) outer (revokeAll-within b c u rs b))
+      (subst (λ (l : List Order). Through (Fine b c) l (storeOf b)) (sym given) (revokes-through b c u rs b k lists (subst (λ (L : Layer). Within (revokeAll u rs b .book .outer) L) outer (within-self (revokeAll u rs b .book .outer))) (begins b c)))
+
+revoke-safe : (b : Book) → sound b ≡ true → (r u : ℕ) → Allowed (revokes r u) b → sound (revoke r u b .book) ≡ true → obey false (revoke r u b .orders) (storeOf b) ≡ storeOf (revoke r u b .book)
+    → (k : ℕ) → Safe b (revoke r u b .book) (obey false (take k (revoke r u b .orders)) (storeOf b))
+unfolding Allowed revokeAll _then_ done
+revoke-safe b hb r u (ul, l, on) hc ends =
+    revokes-safe b (revoke r u b .book) hb hc u (r ∷ []) (one-run u r b hb l on) refl (λ i m. subst (λ (j : ℕ). revokedList j u b ≡ resource (revoke r u b .book) j .list) (sym (List·Memᴰ·eq-of-singleton m)) (sym (revoke-own b r u l))) (revoke r u b .orders) (sym (append-nil (revoke r u b .orders))) ends
+
+leave-safe : (b : Book) → sound b ≡ true → (u : ℕ) → sound (leave u b .book) ≡ true → obey false (leave u b .orders) (storeOf b) ≡ storeOf (leave u b .book)
+    → (k : ℕ) → Safe b (leave u b .book) (obey false (take k (leave u b .orders)) (storeOf b))
+unfolding leave _then_ gone done withLeavers
+leave-safe b hb u hc ends =
+    revokes-safe b (leave u b .book) hb hc u (naming u b) (naming-run u b hb) refl (λ i m. sym (leave-list u b i)) (leave u b .orders) (leave-given u b) ends
 
 -- ---- grant
 
@@ -341,8 +402,9 @@ work-safe : (q : Request) (b : Book) → sound b ≡ true → Allowed q b → so
 unfolding work Allowed stopped isJoin
 work-safe joins b h a hc = join-safe b h hc (obeyed-work joins b h a)
 work-safe (inserts l) b h a hc = insert-safe l b h hc (obeyed-work (inserts l) b h a)
-work-safe (grants r u) b h (un, l, out) hc = grant-safe b h r u l un hc (obeyed-work (grants r u) b h (un, l, out))
-work-safe (revokes r u) b h (un, l, in′) hc = revoke-safe b h r u l hc (obeyed-work (revokes r u) b h (un, l, in′))
+work-safe (grants r u) b h (un, l, g, out) hc = grant-safe b h r u l un hc (obeyed-work (grants r u) b h (un, l, g, out))
+work-safe (revokes r u) b h a hc = revoke-safe b h r u a hc (obeyed-work (revokes r u) b h a)
+work-safe (leaves u) b h a hc = leave-safe b h u hc (obeyed-work (leaves u) b h a)
 
 -- of an accepted request: after any number of its orders
 pub safe-at-every-stop : (t : Tables) (b : Book) (room : ℕ) (q : Request) → refusal t b room q ≡ option.none → (k : ℕ)

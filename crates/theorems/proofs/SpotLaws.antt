@@ -1,22 +1,22 @@
--- Where a rule is broken there is a row: its section and its number are those of a row of the book.
+-- Where a rule is broken at a row, the row is there: its section and its number are those of a row of the book.
 -- Assumes nothing.
 use Prim.Native.Nat.{ℕ, _<_}
-use mathlib.Core.Path.{_≡_, refl, sym, ap, _∙_, subst}
+use mathlib.Core.Path.{_≡_, refl, ap, _∙_, subst}
 use mathlib.Core.Bool.{Bool, true, false, not, cond}
-use mathlib.Core.List.{List, [], _∷_, map}
+use mathlib.Core.List.{List, [], _∷_}
 use mathlib.Core.Option.{Option, some, none, Option·getD}
 use native.Mathlib.Omega.{arith}
 use lib.Dec.{ltb, lit<}
 use lib.ListN.{length, getD}
 use borrow.Author.Tests.{ltb-true}
-use Rattle.rules.specs.Lists.{first, numbered, upTo}
-use Rattle.rules.specs.Tests.{Tested, rows, things, unlikeEarlier, broken, orRule, firstRule}
+use Rattle.rules.specs.Lists.{first, numbered}
+use Rattle.rules.specs.Tests.{Tested, rows, unlikeEarlier, broken, orRule, firstRule}
 use Rattle.rules.specs.Book.{Book}
-use Rattle.rules.specs.Sound.{joinedSet, placedRow, plainRow, placed, hasOwn, notEmpty, entersGroup, unequal, risingRow, unitedVertex, newRow, held, locked, rows1, rows2, rows3, rows4, rows5, rows6, rows7, rows8, rules}
+use Rattle.rules.specs.Sound.{joinedSet, placedRow, plainRow, placed, notEmpty, entersGroup, unequal, risingRow, unitedVertex, newRow, held, locked, rows1, rows2, rows3, rows4, rows5, rows6, rows7, rows8, rules}
 use Rattle.rules.specs.declared.Letter.{Letter}
 use Rattle.rules.specs.declared.Letter.the-variants as letter
 use Rattle.rules.specs.declared.Spot.{Spot}
-use Rattle.rules.specs.declared.Spot.the-variants.{Row, Missing}
+use Rattle.rules.specs.declared.Spot.the-variants.{Row, Leavers, Missing}
 use Rattle.theorems.proofs.ListLaws.{length-numbered}
 use Rattle.theorems.proofs.TestedLaws.{length-pass}
 
@@ -27,6 +27,7 @@ sizesOf b = length (b .inner .sets) ∷ length (b .inner .tokens) ∷ length (b 
 -- a row that is there, where the sections have ns rows
 abbrev pub There : List ℕ → Spot → Type 0
 There ns (Row k i) = (k < 5) × (i < getD ns k 0)
+There ns Leavers = Unit {0}
 There ns Missing = Unit {0}
 
 abbrev Fits : List ℕ → Tested → Type 0
@@ -79,14 +80,17 @@ unfolding rules rows1 rows2 rows3 rows4 rows5 rows6 rows7 rows8
 book-fits b =
     let ns = sizesOf b in (
       (
-        all-rows ns 0 (joinedSet (b .users)) (b .inner .sets) (lit< tt) refl,
+        (λ i m. tt),
         (
-          all-rows ns 1 (placedRow (b .inner)) (b .inner .tokens) (lit< tt) refl,
+          all-rows ns 0 (joinedSet (b .users)) (b .inner .sets) (lit< tt) refl,
           (
-            all-rows ns 2 (joinedSet (b .users)) (b .outer .sets) (lit< tt) refl,
+            all-rows ns 1 (placedRow (b .inner)) (b .inner .tokens) (lit< tt) refl,
             (
-              all-rows ns 3 (plainRow (b .outer)) (b .outer .tokens) (lit< tt) refl,
-              (all-rows ns 4 (placed b) (b .resources) (lit< tt) refl, tt),
+              all-rows ns 2 (joinedSet (b .users)) (b .outer .sets) (lit< tt) refl,
+              (
+                all-rows ns 3 (plainRow (b .outer)) (b .outer .tokens) (lit< tt) refl,
+                (all-rows ns 4 (placed b) (b .resources) (lit< tt) refl, tt),
+              ),
             ),
           ),
         ),

@@ -5,12 +5,12 @@ use Prim.Native.Nat.{ℕ, zero, suc, _+_, _-_, _*_, _≤_, _<_}
 use mathlib.Core.Path.{_≡_, refl, sym, ap, _∙_, subst}
 use mathlib.Core.Bool.{Bool, true, false, cond}
 use mathlib.Core.Logic.{_⊎_, inl, inr, _↔_}
-use mathlib.Core.List.{List, [], _∷_, _++_}
+use mathlib.Core.List.{List, [], _∷_, _++_, map}
 use mathlib.Core.Option.{Option, some, none}
 use native.Mathlib.Nat.{le-refl}
 use native.Mathlib.Omega.{arith}
 use lib.Dec.{eqb, ltb}
-use lib.ListN.{length, getD, set, take, drop, length-append, length-set, List·getD-append}
+use lib.ListN.{length, getD, set, take, drop, length-append, length-set, length-map, List·getD-append, List·getD-map}
 use lib.Seq.{take-nil, getD-set-other}
 use borrow.Author.Tests.{eqb-false, ltb-true}
 use Rattle.sets.specs.Sets.{has, single, union, minus}
@@ -19,16 +19,16 @@ use Rattle.rules.specs.Lists.{every}
 use Rattle.rules.specs.Book.{Book, resource}
 use Rattle.rules.specs.Sound.{sound}
 use Rattle.rules.specs.Bytes.{Tables, bookIn}
-use Rattle.rules.specs.Refusals.{Request, joins, inserts, grants, revokes, work, refusal}
+use Rattle.rules.specs.Refusals.{Request, joins, inserts, grants, revokes, leaves, work, refusal}
 use Rattle.rules.specs.Calls.{orderRows, orderOf, ordersIn, rowsLent, Change, change, changeBy, Asked, changes, opens, nothing, One, one, changeOne, refusedOne, All, all, askedIn, serveCall, serveBy, refusalServe}
 use Rattle.rules.specs.Runs.{Kept, keep, bookOf, Call, to-change, headChanged, after, run, Access, access, listed}
 use Rattle.rules.specs.Host.{Store, obey, obeyAgain, restarted, most, isJoin, storeOf, HostOpens, obeyOne, obeyRun, notRead}
 use Rattle.rules.specs.Requests.{Done}
-use Rattle.rules.specs.Stops.{oldList, Safe, stopped, names, ordersGiven, ordersOf, obeySome, booksAt}
+use Rattle.rules.specs.Stops.{oldList, Safe, stopped, alters, ordersGiven, ordersOf, obeySome, booksAt}
 use Rattle.rules.specs.declared.Head.{Head}
 use Rattle.rules.specs.declared.Order.{Order}
 use Rattle.rules.specs.declared.Refusal.{Refusal}
-use Rattle.theorems.proofs.AccessLaws.{list-at, list-count, work-access}
+use Rattle.theorems.proofs.AccessLaws.{list-at, list-count, less-same, work-access}
 use Rattle.theorems.proofs.RequestLaws.{accepted, work-sound}
 use Rattle.theorems.proofs.ByteLaws.{sound-book-laid}
 use Rattle.theorems.proofs.RunLaws.{run-sound}
@@ -43,12 +43,11 @@ use Rattle.theorems.proofs.StopLaws.{old-list, end-safe}
 use Rattle.theorems.proofs.SafeLaws.{safe-at-every-stop}
 use Rattle.theorems.proofs.AgainLaws.{restarts, finishes}
 
--- ---- "every encrypted folder but the one that the request names opens for exactly its list"
+-- ---- "every encrypted folder that the request does not change opens for exactly its list"
 
--- a request leaves the lists of the folders that it does not name
-others-same : (q : Request) (b : Book) (r : ℕ) → names q b r ≡ false → r < length (work q b .book .resources)
+others-same : (q : Request) (b : Book) (r : ℕ) → alters q b r ≡ false → r < length (work q b .book .resources)
     → (r < length (b .resources)) × (resource (work q b .book) r .list ≡ resource b r .list)
-unfolding names listed
+unfolding alters listed
 others-same q b r n l = go q n (work-access q b)
   where
     c : Book
@@ -68,7 +67,7 @@ others-same q b r n l = go q n (work-access q b)
     changed i x f e =
         by (set ls i x) e (omega (arith, long (set ls i x) e, length-set ls i x)) (getD-set-other ls i r x 0 (eqb-false r i f))
 
-    go : (q : Request) → names q b r ≡ false → access c ≡ listed q (access b) → (r < length (b .resources)) × (resource c r .list ≡ resource b r .list)
+    go : (q : Request) → alters q b r ≡ false → access c ≡ listed q (access b) → (r < length (b .resources)) × (resource c r .list ≡ resource b r .list)
     go joins f e = by ls (ap (λ (a : Access). a .lists) e) (long ls (ap (λ (a : Access). a .lists) e)) refl
     go (inserts l) f e =
         let p : access c .lists ≡ ls ++ (l ∷ []) = ap (λ (a : Access). a .lists) e in
@@ -76,6 +75,10 @@ others-same q b r n l = go q n (work-access q b)
         by (ls ++ (l ∷ [])) p k (List·getD-append ls (l ∷ []) 0 r k)
     go (grants i u) f e = changed i (union (getD ls i 0) (single u)) f (ap (λ (a : Access). a .lists) e)
     go (revokes i u) f e = changed i (minus (getD ls i 0) (single u)) f (ap (λ (a : Access). a .lists) e)
+    go (leaves u) f e =
+        let p : access c .lists ≡ map (λ l. minus l (single u)) ls = ap (λ (a : Access). a .lists) e in
+        by (map (λ l. minus l (single u)) ls) p (omega (arith, long (map (λ l. minus l (single u)) ls) p, length-map ls (λ l. minus l (single u))))
+        (List·getD-map (λ l. minus l (single u)) ls r 0 ∙ less-same u (getD ls r 0) (ap (λ (x : ℕ). has x u) (list-at b r) ∙ f))
 
 -- what `Safe` says of a folder whose list stays
 safe-exact : (b c : Book) (s : Store) → Safe b c s → (r : ℕ) → r < length (s .keys) → r < length (b .resources) → resource c r .list ≡ resource b r .list
@@ -98,7 +101,7 @@ module _ (t : Tables) (b : Book) (room : ℕ) (q : Request) (h : refusal t b roo
       let m = longer-at (rest-grows (isJoin q) (work q b .orders) k (storeOf b) .keys) r 0 l .0 in
       omega (arith, ap (λ (s : Store). length (s .keys)) (obeyed-work q b (a .sound′) (a .allowed)), keys-count (work q b .book))
 
-  pub others-exact : (r : ℕ) → names q b r ≡ false → r < length (stopped q b k (storeOf b) .keys) → (u : ℕ)
+  pub others-exact : (r : ℕ) → alters q b r ≡ false → r < length (stopped q b k (storeOf b) .keys) → (u : ℕ)
       → HostOpens (stopped q b k (storeOf b)) u r ↔ (has (resource b r .list) u ≡ true)
   others-exact r n l u =
       let (m, e) = others-same q b r n (key-there r l) in
@@ -155,13 +158,13 @@ module _ (cs : List Call) (k : Kept) (e : every notRead cs ≡ true) (sane : sou
   abbrev os : List Order
   os = ordersOf q list kept
 
-  abbrev leaves : Book
-  leaves = bookOf (after (to-change q list) kept)
+  abbrev next : Book
+  next = bookOf (after (to-change q list) kept)
 
   abbrev Cases : Type 0
   Cases =
-      ((os ≡ []) × (leaves ≡ bookOf kept))
-      ⊎ ((refusal (kept .tables) (bookOf kept) (rowsLent list) q ≡ none) × (os ≡ work q (bookOf kept) .orders) × (leaves ≡ work q (bookOf kept) .book))
+      ((os ≡ []) × (next ≡ bookOf kept))
+      ⊎ ((refusal (kept .tables) (bookOf kept) (rowsLent list) q ≡ none) × (os ≡ work q (bookOf kept) .orders) × (next ≡ work q (bookOf kept) .book))
 
   cases : Cases
   unfolding bookOf
@@ -173,22 +176,22 @@ module _ (cs : List Call) (k : Kept) (e : every notRead cs ≡ true) (sane : sou
   sound-then : sound (bookOf kept) ≡ true
   sound-then = run-sound cs k sane
 
-  pub run-stop-safe : (n : ℕ) → Safe (bookOf kept) leaves (obey (isJoin q) (take n os) has-then)
+  pub run-stop-safe : (n : ℕ) → Safe (bookOf kept) next (obey (isJoin q) (take n os) has-then)
   unfolding stopped
   run-stop-safe n = go cases
     where
-      go : Cases → Safe (bookOf kept) leaves (obey (isJoin q) (take n os) has-then)
+      go : Cases → Safe (bookOf kept) next (obey (isJoin q) (take n os) has-then)
       go (inl (p, l)) =
           rw (p, l, in-step, take-none (isJoin q) n (storeOf (bookOf kept))) (end-safe (bookOf kept) (bookOf kept) sound-then (le-refl (length (bookOf kept .resources))))
       go (inr (r, p, l)) = rw (p, l, in-step) (safe-at-every-stop (kept .tables) (bookOf kept) (rowsLent list) q r n)
 
-  -- every folder but the one that is named
-  pub run-others-exact : (n r : ℕ) → names q (bookOf kept) r ≡ false → r < length (obey (isJoin q) (take n os) has-then .keys) → (u : ℕ)
+  -- every folder that it does not change
+  pub run-others-exact : (n r : ℕ) → alters q (bookOf kept) r ≡ false → r < length (obey (isJoin q) (take n os) has-then .keys) → (u : ℕ)
       → HostOpens (obey (isJoin q) (take n os) has-then) u r ↔ (has (resource (bookOf kept) r .list) u ≡ true)
   unfolding stopped
   run-others-exact n r = go cases
     where
-      go : Cases → names q (bookOf kept) r ≡ false → r < length (obey (isJoin q) (take n os) has-then .keys) → (u : ℕ)
+      go : Cases → alters q (bookOf kept) r ≡ false → r < length (obey (isJoin q) (take n os) has-then .keys) → (u : ℕ)
           → HostOpens (obey (isJoin q) (take n os) has-then) u r ↔ (has (resource (bookOf kept) r .list) u ≡ true)
       go (inl (p, l)) =
           rw (p, in-step, take-none (isJoin q) n (storeOf (bookOf kept)))
@@ -204,10 +207,10 @@ module _ (cs : List Call) (k : Kept) (e : every notRead cs ≡ true) (sane : sou
       go (inl (p, l)) = rw (p, restarted-none (isJoin q) ns has-then, take-none (isJoin q) (most ns) has-then)
       go (inr (a, p, l)) = rw (p, in-step) (restarts (kept .tables) (bookOf kept) (rowsLent list) q a ns)
 
-  pub run-finishes : (ns : List ℕ) → length os ≤ most ns → restarted (isJoin q) os ns has-then ≡ storeOf leaves
+  pub run-finishes : (ns : List ℕ) → length os ≤ most ns → restarted (isJoin q) os ns has-then ≡ storeOf next
   run-finishes ns = go cases
     where
-      go : Cases → length os ≤ most ns → restarted (isJoin q) os ns has-then ≡ storeOf leaves
+      go : Cases → length os ≤ most ns → restarted (isJoin q) os ns has-then ≡ storeOf next
       go (inl (p, l)) = rw (p, l) (λ m. restarted-none (isJoin q) ns has-then ∙ in-step)
       go (inr (a, p, l)) = rw (p, l, in-step) (finishes (kept .tables) (bookOf kept) (rowsLent list) q a ns)
 

@@ -1,8 +1,8 @@
 -- A rule of a sound book holds exactly where no row breaks it; and S1 to S8, layer by layer.
 -- Assumes nothing.
-use Prim.Native.Nat.{ℕ, zero, suc, _+_, _≤_, _<_}
+use Prim.Native.Nat.{ℕ, zero, suc, _+_, _<_}
 use mathlib.Core.Path.{_≡_, refl, sym, ap, ap₂, _∙_, subst}
-use mathlib.Core.Bool.{Bool, true, false, _&&_, _||_, not, cond, true≢false, false≢true, and-assoc, and-true, and-false, and-comm}
+use mathlib.Core.Bool.{Bool, true, false, _&&_, not, cond, false≢true, and-assoc, and-true, and-false, and-comm}
 use mathlib.Core.List.{List, [], _∷_, map, List·Memᴰ, List·Memᴰ·head, List·Memᴰ·tail}
 use mathlib.Core.Option.{Option, some, none}
 use native.Mathlib.Nat.{zero-lt-suc, zero-add}
@@ -10,11 +10,9 @@ use native.Mathlib.Omega.{arith}
 use lib.Dec.{eqb, ltb}
 use lib.ListN.{length, getD, take, length-take}
 use lib.Seq.{getD-take}
-use borrow.Author.Tests.{not-true, not-false}
-use Rattle.sets.proofs.Laws.{both}
 use Rattle.rules.specs.Lists as lists
 use Rattle.rules.specs.Lists.{every, first, pairwise, numbered, upTo}
-use Rattle.rules.specs.Tests.{Tested, rows, unlikeEarlier, allPass, kept, broken, allKept, orRule, firstRule, isNone}
+use Rattle.rules.specs.Tests.{Tested, unlikeEarlier, allPass, kept, broken, allKept, orRule, firstRule, isNone}
 use Rattle.rules.specs.Layer.{Layer}
 use Rattle.rules.specs.Book.{Book}
 use Rattle.rules.specs.Sound.{counts, joinedSet, placedRow, plainRow, placed, hasOwn, notEmpty, entersGroup, unequal, risingRow, unitedVertex, lateralRow, otherRow, newRow, held, locked, rows1, rows2, rows3, rows4, rows5, rows6, rows7, rows8, rules, S1, S2, S3, S4, S5, S6, S7, S8, sound}
@@ -147,8 +145,8 @@ s2-order true false z e f = sym (ap (λ x. x && z) (and-false e))
 s2-order false b z e f = refl
 
 module _ (b : Book) where
-  pub s1-is : S1 b ≡ (counts b && named (b .users) (b .inner) && named (b .users) (b .outer) && every (λ t. eqb (t .kind) 0) (b .outer .tokens) && every (placed b) (b .resources))
-  unfolding S1 rows1 kept every named plainRow
+  pub s1-is : S1 b ≡ (counts b && joinedSet (b .users) (b .leavers) && named (b .users) (b .inner) && named (b .users) (b .outer) && every (λ t. eqb (t .kind) 0) (b .outer .tokens) && every (placed b) (b .resources))
+  unfolding S1 rows1 kept allPass every named plainRow
   s1-is =
       rw (
         every-pass (joinedSet (b .users)) (b .inner .sets),
