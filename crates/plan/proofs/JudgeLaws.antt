@@ -9,7 +9,8 @@ use native.Mathlib.Omega.{arith}
 use lib.Dec.{eqb, ltb}
 use lib.ListN.{length, getD, length-append}
 use borrow.Author.Tests.{eq-eqb, ne-eqb, lt-ltb, le-ltb, le-leb, lt-leb, eqb-false}
-use Rattle.sets.specs.Sets.{has, single, minus}
+use Rattle.sets.specs.Sets.{has, single, minus, apart}
+use Rattle.sets.specs.Words.{setIn}
 use Rattle.rules.specs.Lists.{keep, upTo}
 use Rattle.rules.specs.Layer.{Layer, found, vertexFor, cover, withVertex}
 use Rattle.rules.specs.Book.{Book, Resource, resource, hasOuter}
@@ -22,8 +23,9 @@ use Rattle.rules.specs.Refusals.{Request, joins, inserts, grants, revokes, verd
 use Rattle.rules.specs.Runs.{access, listed}
 use Rattle.rules.specs.declared.Head.{Head}
 use Rattle.rules.specs.declared.Refusal.{Refusal}
-use Rattle.rules.specs.declared.Refusal.the-variants.{NoSuch, EmptyList, UsersFull, ResourcesFull, Listed, NotListed, ShortList}
+use Rattle.rules.specs.declared.Refusal.the-variants.{NoSuch, HasLeft, EmptyList, UsersFull, ResourcesFull, Listed, NotListed, ShortList}
 use Rattle.theorems.specs.Plan.{newVertices, newTokens, insertFree, agreed, waits, waiters, ifAny, grantedList, revokedList}
+use Rattle.theorems.proofs.SoundLaws.{sound-locked}
 use Rattle.theorems.proofs.RequestLaws.{such, verdict-first, verdict-passed}
 use Rattle.theorems.proofs.AccessLaws.{users-of, work-access}
 use Rattle.theorems.proofs.CountLaws.{withVertex-vertices, withVertex-tokens}
@@ -39,11 +41,11 @@ use Rattle.plan.specs.declared.judge.After.{After}
 use Rattle.plan.specs.declared.judge.Part.{Part}
 use Rattle.plan.specs.Waiting.{waitsIn, waitersIn, waitersOf}
 use Rattle.plan.specs.Judge.{Ready, plan, planOf, judgedBy, judged, limited, holdersAre, part, lockPart, settledPart, groupPart, joint, afterOf, grantPart, grantPlan}
-use Rattle.plan.proofs.ReadyLaws.{bookOf, Sizes, sizes, users-count, mode-count, resources-count, outer-count, inner-tokens-count, outer-tokens-count, inner-new, row-read, such-told}
+use Rattle.plan.proofs.ReadyLaws.{bookOf, Sizes, sizes, users-count, leavers-are, mode-count, resources-count, outer-count, inner-tokens-count, outer-tokens-count, inner-new, row-read, such-told}
 
 -- ---- the verdict
 
--- one of 1 to 6
+-- one of the request's own
 pub judged-no : (q : Request) (b : Book) (room : ℕ) {x : Refusal} → verdict (own q b) ≡ some x → No x ≡ judged q b room
 unfolding judged judgedBy
 judged-no q b room e = sym (ap (λ (o : Option Refusal). judgedBy o (planOf q b)) (verdict-first (own q b) (limits room (work q b)) e))
@@ -56,7 +58,7 @@ pub record Leaves (d : Done) (a : After) : Type 0 where
   pub outer : a .«outer_tokens» ≡ length (d .book .outer .tokens)
   pub orders : a .orders ≡ length (d .orders)
 
--- none of 1 to 6
+-- none of the request's own
 pub judged-limited : (q : Request) (b : Book) (room : ℕ) (a : After) (p : Plan) → verdict (own q b) ≡ none → Leaves (work q b) a → p ≡ planOf q b
     → limited a room p ≡ judged q b room
 unfolding limited judged limits
@@ -79,7 +81,7 @@ group-is [] L s = refl
 group-is (i ∷ is) L s = rw (ne-eqb (length (i ∷ is)) 0 (λ e. omega arith))
 
 -- a request that is not a join leaves the users as they are
-same-users : (q : Request) (b : Book) → listed q (access b) .users ≡ b .users → work q b .book .users ≡ b .users
+pub same-users : (q : Request) (b : Book) → listed q (access b) .users ≡ b .users → work q b .book .users ≡ b .users
 same-users q b e = users-of (work q b .book) (listed q (access b)) (work-access q b) ∙ e
 
 -- a vertex for s, where z does not spare it
@@ -154,10 +156,10 @@ module _ (h : Head) (iv it ov ot rs : List ℕ) where
   unfolding planOf agreed holdersOf layerOf bookIn
   grant-plan-is r u = refl
 
-  insert-passed : (l : ℕ) → l < 2 ^ h .users .0 → (l ≡ 0 → ⊥) → h .resources .0 < maxResources → verdict (own (inserts l) b) ≡ none
+  insert-passed : (l : ℕ) → l < 2 ^ h .users .0 → apart l (setIn (h .leavers)) ≡ true → (l ≡ 0 → ⊥) → h .resources .0 < maxResources → verdict (own (inserts l) b) ≡ none
   unfolding own verdict
-  insert-passed l lb some′ few =
-      rw (users-count h iv it ov ot rs, resources-count h iv it ov ot rs, lt-ltb l (2 ^ h .users .0) lb, ne-eqb l 0 some′, lt-leb maxResources (h .resources .0) few)
+  insert-passed l lb here some′ few =
+      rw (users-count h iv it ov ot rs, leavers-are h iv it ov ot rs, resources-count h iv it ov ot rs, lt-ltb l (2 ^ h .users .0) lb, here, ne-eqb l 0 some′, lt-leb maxResources (h .resources .0) few)
 
   module _ (ready : Ready h (tables iv it ov ot rs)) where
     abbrev s0 : sound b ≡ true
@@ -185,13 +187,13 @@ module _ (h : Head) (iv it ov ot rs : List ℕ) where
     unfolding work listed access
     revoke-leaves r u l on =
         let s = revokedList r u b in
-        let outer = revoke-outer b s0 r u l on in
+        let outer = revoke-outer b r u (sound-locked b s0 r l) l on in
         record {
           users = sym (same-users (revokes r u) b refl ∙ users-count h iv it ov ot rs);
           vertices = omega (arith, ap (λ (L : Layer). length (L .sets)) outer, withVertex-vertices (b .outer) s, outer-count h iv it ov ot rs);
-          inner = omega (arith, ap (λ (L : Layer). length (L .tokens)) (revoke-inner b s0 r u l on), inner-tokens-count h iv it ov ot rs);
+          inner = omega (arith, ap (λ (L : Layer). length (L .tokens)) (revoke-inner b r u (sound-locked b s0 r l) l on), inner-tokens-count h iv it ov ot rs);
           outer = omega (arith, ap (λ (L : Layer). length (L .tokens)) outer, withVertex-tokens (b .outer) s, outer-tokens-count h iv it ov ot rs);
-          orders = omega (arith, revoke-orders b s0 r u l on);
+          orders = omega (arith, revoke-orders b r u (sound-locked b s0 r l) l on);
         }
 
     grant-leaves : (r u : ℕ) → r < length (b .resources) → u < b .users → has (resource b r .list) u ≡ false
@@ -219,20 +221,20 @@ module _ (h : Head) (iv it ov ot rs : List ℕ) where
     -- ---- each request, with the callees' answers as premises
 
     module _ (room : ℕ) where
-      pub insert-judged : (l : ℕ) {free : Bool} {i : New} {s : Part} {a : After} {p : Plan} {j : Judged} → l < 2 ^ h .users .0 → (l ≡ 0 → ⊥) → h .resources .0 < maxResources
+      pub insert-judged : (l : ℕ) {free : Bool} {i : New} {s : Part} {a : After} {p : Plan} {j : Judged} → l < 2 ^ h .users .0 → apart l (setIn (h .leavers)) ≡ true → (l ≡ 0 → ⊥) → h .resources .0 < maxResources
           → free ≡ (eqb (h .mode .0) 1 && holdersAre (layerOf (innerShape h) it iv) l)
           → i .vertices ≡ newVertices (setsOnly (h .«inner_vertices» .0) iv) l → i .tokens ≡ newTokens (setsOnly (h .«inner_vertices» .0) iv) l
           → s ≡ settledPart free book.none sets l
           → a ≡ afterOf h (i .tokens) (i .vertices + i .tokens + 1) s
           → p ≡ plan free false 0 → j ≡ limited a room p → j ≡ judged (inserts l) b room
-      insert-judged l {free} {i} {s} {a} {p} lb some′ few ef ev et es ea ep ej =
+      insert-judged l {free} {i} {s} {a} {p} lb here some′ few ef ev et es ea ep ej =
           ej ∙ judged-limited (inserts l) b room a p passed (subst (Leaves (work (inserts l) b)) (sym after) (insert-leaves l lb)) planned
         where
           is-free : free ≡ insertFree l b
           is-free = ef ∙ free-in l
 
           passed : verdict (own (inserts l) b) ≡ none
-          passed = insert-passed l lb some′ few
+          passed = insert-passed l lb here some′ few
 
           planned : p ≡ planOf (inserts l) b
           planned = ep ∙ ap (λ (z : Bool). plan z false 0) is-free ∙ insert-plan-is l
@@ -244,15 +246,19 @@ module _ (h : Head) (iv it ov ot rs : List ℕ) where
       unfolding own verdict
       insert-no-such l e = judged-no (inserts l) b room (rw (users-count h iv it ov ot rs, e))
 
-      pub insert-empty : (l : ℕ) → ltb l (2 ^ h .users .0) ≡ true → l ≡ 0 → No EmptyList ≡ judged (inserts l) b room
+      pub insert-left : (l : ℕ) → ltb l (2 ^ h .users .0) ≡ true → apart l (setIn (h .leavers)) ≡ false → No HasLeft ≡ judged (inserts l) b room
       unfolding own verdict
-      insert-empty l e q = judged-no (inserts l) b room (rw (users-count h iv it ov ot rs, e, eq-eqb l 0 q))
+      insert-left l e g = judged-no (inserts l) b room (rw (users-count h iv it ov ot rs, leavers-are h iv it ov ot rs, e, g))
 
-      pub insert-full : (l : ℕ) → ltb l (2 ^ h .users .0) ≡ true → (l ≡ 0 → ⊥) → maxResources ≤ h .resources .0 → No ResourcesFull ≡ judged (inserts l) b room
+      pub insert-empty : (l : ℕ) → ltb l (2 ^ h .users .0) ≡ true → apart l (setIn (h .leavers)) ≡ true → l ≡ 0 → No EmptyList ≡ judged (inserts l) b room
       unfolding own verdict
-      insert-full l e n m =
+      insert-empty l e g q = judged-no (inserts l) b room (rw (users-count h iv it ov ot rs, leavers-are h iv it ov ot rs, e, g, eq-eqb l 0 q))
+
+      pub insert-full : (l : ℕ) → ltb l (2 ^ h .users .0) ≡ true → apart l (setIn (h .leavers)) ≡ true → (l ≡ 0 → ⊥) → maxResources ≤ h .resources .0 → No ResourcesFull ≡ judged (inserts l) b room
+      unfolding own verdict
+      insert-full l e g n m =
           judged-no (inserts l) b room
-          (rw (users-count h iv it ov ot rs, resources-count h iv it ov ot rs, e, ne-eqb l 0 n, le-leb maxResources (h .resources .0) m))
+          (rw (users-count h iv it ov ot rs, leavers-are h iv it ov ot rs, resources-count h iv it ov ot rs, e, g, ne-eqb l 0 n, le-leb maxResources (h .resources .0) m))
 
       -- after a join of a sound book 7, 8 and 9 never hold
       join-verdict : h .users .0 < maxUsers → verdict (own joins b ++ limits room (work joins b)) ≡ cond (ltb room 2) (some ShortList) none
@@ -289,6 +295,10 @@ module _ (h : Head) (iv it ov ot rs : List ℕ) where
         unfolding own verdict
         revoke-no-such e = judged-no (revokes r u) b room (rw (sym (such-told h iv it ov ot rs r u ez) ∙ e))
 
+        pub grant-left : z ≡ false → has (setIn (h .leavers)) u ≡ true → No HasLeft ≡ judged (grants r u) b room
+        unfolding own verdict
+        grant-left ok g = judged-no (grants r u) b room (rw (sym (such-told h iv it ov ot rs r u ez) ∙ ok, leavers-are h iv it ov ot rs, g))
+
         module _ (ok : z ≡ false) {x : Resource} (ex : x ≡ getD (resourcesIn (h .resources .0) rs) r noResource) {y : Bool} (ey : y ≡ has (x .list) u) where
           exists : noSuch b u r ≡ false
           exists = sym (such-told h iv it ov ot rs r u ez) ∙ ok
@@ -299,17 +309,17 @@ module _ (h : Head) (iv it ov ot rs : List ℕ) where
           test : {w : Bool} → y ≡ w → has (resource b r .list) u ≡ w
           test e = ap (λ (a : Resource). has (a .list) u) (sym row) ∙ sym ey ∙ e
 
-          pub grant-listed : y ≡ true → No Listed ≡ judged (grants r u) b room
+          pub grant-listed : has (setIn (h .leavers)) u ≡ false → y ≡ true → No Listed ≡ judged (grants r u) b room
           unfolding own verdict
-          grant-listed e = judged-no (grants r u) b room (rw (exists, test e))
+          grant-listed g e = judged-no (grants r u) b room (rw (exists, test e, leavers-are h iv it ov ot rs, g))
 
           pub revoke-unlisted : y ≡ false → No NotListed ≡ judged (revokes r u) b room
           unfolding own verdict
           revoke-unlisted e = judged-no (revokes r u) b room (rw (exists, test e))
 
-          grant-passed : y ≡ false → verdict (own (grants r u) b) ≡ none
+          grant-passed : has (setIn (h .leavers)) u ≡ false → y ≡ false → verdict (own (grants r u) b) ≡ none
           unfolding own verdict
-          grant-passed e = rw (exists, test e)
+          grant-passed g e = rw (exists, test e, leavers-are h iv it ov ot rs, g)
 
           revoke-passed : y ≡ true → verdict (own (revokes r u) b) ≡ none
           unfolding own verdict
@@ -326,15 +336,15 @@ module _ (h : Head) (iv it ov ot rs : List ℕ) where
               after : a ≡ afterOf h 0 0 (lockPart (b .outer) (revokedList r u b) 1)
               after = ea ∙ ap (afterOf h 0 0) (es ∙ lock-in l 1 ∙ ap (λ (k : ℕ). lockPart (b .outer) k 1) (el ∙ ap (λ (w : Resource). minus (w .list) (single u)) row))
 
-          pub grant-judged : {p : Plan} {s : Part} {a : After} {j : Judged} → y ≡ false
+          pub grant-judged : {p : Plan} {s : Part} {a : After} {j : Judged} → has (setIn (h .leavers)) u ≡ false → y ≡ false
               → p ≡ grantPlan (h .mode .0) (holders (layerOf (innerShape h) it iv) (x .inner)) (x .list) u
               → s ≡ grantPart h ov rs r u x p
               → a ≡ afterOf h (cond (p .token) 1 0) (cond (p .token) 1 0) s
               → j ≡ limited a room p → j ≡ judged (grants r u) b room
           unfolding planOf grantPart
-          grant-judged {p} {s} {a} e ep es ea ej =
+          grant-judged {p} {s} {a} g e ep es ea ej =
               ej
-              ∙ judged-limited (grants r u) b room a p (grant-passed e)
+              ∙ judged-limited (grants r u) b room a p (grant-passed g e)
               (subst (Leaves (work (grants r u) b)) (sym after) (grant-leaves r u (such b u r exists .1) (such b u r exists .0) (test e))) planned
             where
               planned : p ≡ planOf (grants r u) b

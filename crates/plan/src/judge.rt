@@ -3,6 +3,7 @@
 use crate::Judged;
 use crate::Plan;
 use crate::Request;
+use crate::leave::leave_part;
 use crate::waiting::waiting;
 use layer::holders::holders_of;
 use layer::make::new_rows;
@@ -32,7 +33,7 @@ ghost use lib.ListN.{length};
 ghost use Rattle.sets.specs.Words.{people, bytes, setIn};
 ghost use Rattle.rules.specs.Bytes.{tables, bookIn};
 ghost use Rattle.rules.specs.Holders.{holders};
-ghost use Rattle.rules.specs.Refusals.{joins, inserts, grants, revokes};
+ghost use Rattle.rules.specs.Refusals.{joins, inserts, grants, revokes, leaves};
 ghost use Rattle.layer.specs.Laid.{Laid, innerShape, layerOf, resourceIs};
 ghost use Rattle.layer.specs.Make.{setsOnly};
 ghost use Rattle.plan.specs.Judge.{Ready, requestOf, plan, judged, limited, holdersAre, Few, lockPart, settledPart, groupPart, joint, afterOf, grantPart, grantPlan};
@@ -236,6 +237,9 @@ pub fn judge_insert(
     if !l.below(h.users.0) {
         return Judged::No(Refusal::NoSuch);
     }
+    if !l.apart(h.leavers) {
+        return Judged::No(Refusal::HasLeft);
+    }
     if l.same(Users::empty()) {
         return Judged::No(Refusal::EmptyList);
     }
@@ -341,6 +345,9 @@ pub fn judge_grant(
     if no_such(h, r, u) {
         return Judged::No(Refusal::NoSuch);
     }
+    if h.leavers.has(u) {
+        return Judged::No(Refusal::HasLeft);
+    }
     let x = resource_in(rs, h.resources.0 as usize, r.0 as usize);
     if x.list.has(u) {
         return Judged::No(Refusal::Listed);
@@ -348,6 +355,31 @@ pub fn judge_grant(
     let p = grant_plan(h, iv, it, x, u);
     let s = grant_part(h, ov, rs, r, u, x, p);
     limits(grant_after(h, p.token, s), room, p)
+}
+
+// ---- leave
+
+pub fn judge_leave(
+    h: Head,
+    iv: &[u8],
+    it: &[u8],
+    ov: &[u8],
+    ot: &[u8],
+    rs: &[u8],
+    u: User,
+    room: usize,
+) -> Judged
+    requires { ⌜ Ready h (tables (now iv) (now it) (now ov) (now ot) (now rs)) ⌝ }
+    ensures { λ j. ⌜ j ≡ judged (leaves (u .0)) (bookIn h (tables (now (iv .entry)) (now (it .entry)) (now (ov .entry)) (now (ot .entry)) (now (rs .entry)))) room ⌝ }
+{
+    if u.0 >= h.users.0 {
+        return Judged::No(Refusal::NoSuch);
+    }
+    if h.leavers.has(u) {
+        return Judged::No(Refusal::HasLeft);
+    }
+    let p = leave_part(h, ov, rs, u);
+    limits(rows_after(h, 0, 0, p), room, plain(false))
 }
 
 // The refusals of a request from 1 on, else its plan.
@@ -369,5 +401,6 @@ pub fn judge(
         Request::Insert(l) => judge_insert(h, iv, it, ov, ot, rs, l, room),
         Request::Grant(r, u) => judge_grant(h, iv, it, ov, ot, rs, r, u, room),
         Request::Revoke(r, u) => judge_revoke(h, iv, it, ov, ot, rs, r, u, room),
+        Request::Leave(u) => judge_leave(h, iv, it, ov, ot, rs, u, room),
     }
 }

@@ -5,6 +5,7 @@ use sets::User;
 use sets::Users;
 
 pub mod judge;
+pub mod leave;
 pub mod waiting;
 
 // A request that changes the book.
@@ -13,6 +14,7 @@ pub enum Request {
     Insert(Users),
     Grant(Resource, User),
     Revoke(Resource, User),
+    Leave(User),
 }
 
 // What applying a request needs to know: whether the folder will have no outer key, whether a kind 1 token is added, and the holders before.
