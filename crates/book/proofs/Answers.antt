@@ -10,6 +10,7 @@ use native.Mathlib.Omega.{arith}
 use lib.Dec.{ltb}
 use lib.ListN.{length, getD, take, drop, length-take, length-drop}
 use borrow.Author.Tests.{not-true, lt-ltb, le-ltb, ltb-true}
+use Rattle.sets.specs.declared.Users.{Users}
 use Rattle.rows.specs.Number.{cell, stored}
 use Rattle.rows.proofs.Laws.{cell-add, cell-one}
 use Rattle.rows.proofs.Fill.{row-within}
@@ -17,13 +18,13 @@ use Rattle.rules.specs.Lists.{first}
 use Rattle.rules.specs.Tests.{firstRule, when, firstSome}
 use Rattle.rules.specs.Book.{Book}
 use Rattle.rules.specs.Sound.{inLimit, rules, sound}
-use Rattle.rules.specs.Bytes.{widths, Tables, headOf, headIn, counts, start, sections, read, limitsOf, countPlaces, badCount, placeOf, ruleFault, fault, faultNumber, faultPlace, isBook, bookIn, laid, write, Room, Bytes}
+use Rattle.rules.specs.Bytes.{widths, Tables, newest, versionIn, fore, headOf, headIn, counts, start, sections, read, limitsOf, countPlaces, badCount, placeOf, ruleFault, fault, faultNumber, faultPlace, isBook, bookIn, laid, write, Room, Bytes, leftBy}
 use Rattle.rules.specs.Refusals.{short, common, verdict, faultyBy, refusalRead, refusalSection, refusalWrite}
 use Rattle.rules.specs.Calls.{part, partBy, sectionCall, loading, loadBy, readCall, writing, writeBy, writeCall}
 use Rattle.rules.specs.declared.Head.{Head}
 use Rattle.rules.specs.declared.Letter.{Letter}
 use Rattle.rules.specs.declared.Spot.{Spot}
-use Rattle.rules.specs.declared.Spot.the-variants.{Row, Missing}
+use Rattle.rules.specs.declared.Spot.the-variants.{Row, Leavers, Missing}
 use Rattle.rules.specs.declared.Fault.{Fault}
 use Rattle.rules.specs.declared.Fault.the-variants.{Count, Rule}
 use Rattle.rules.specs.declared.Refusal.{Refusal}
@@ -34,7 +35,7 @@ use Rattle.rules.specs.declared.Stored.the-variants as store
 use Rattle.layer.specs.declared.table.Found.{Found}
 use Rattle.layer.specs.declared.table.Found.the-variants as found
 use Rattle.layer.specs.declared.table.Found.the-variants.{At}
-use Rattle.sound.specs.Check.{nothing, judgedIs, checkedBy, checked}
+use Rattle.sound.specs.Check.{countsOf, nothing, judgedIs, checkedBy, checked}
 use Rattle.sound.specs.declared.Checked.{Checked}
 use Rattle.sound.specs.declared.Checked.the-variants.{Sound, No}
 use Rattle.sound.specs.declared.every.Judged.{Judged}
@@ -45,12 +46,12 @@ use Rattle.theorems.proofs.RequestLaws.{common-none, common-passed, verdict-fir
 use Rattle.theorems.proofs.FaultLaws.{fault-none}
 use Rattle.theorems.proofs.SpotLaws.{sizesOf, There, spot-there}
 use Rattle.theorems.proofs.ByteLaws.{BookFits, sound-fits, sound-room, head-in}
-use Rattle.theorems.proofs.WriteLaws.{BookBytes, book-bytes, head-read, length-write, start-next, start-le}
+use Rattle.theorems.proofs.WriteLaws.{Exact, BookBytes, book-bytes, head-read, length-write, start-next, start-le}
 use Rattle.book.specs.Ready.{Loadable, Savable, Judgeable, Counted}
 use Rattle.book.specs.Wrongs.{wrongIs}
 use Rattle.book.specs.declared.Wrong.{Wrong}
 use Rattle.book.specs.declared.Wrong.the-variants.{Nothing, First}
-use Rattle.book.proofs.Laws.{Cuts, parts, section-cut, sections-cut}
+use Rattle.book.proofs.Laws.{start-left, counts-left, start-fore, Cuts, parts, section-cut, sections-cut}
 
 -- the answer x is no (the code tests `!x`)
 pub no : {s x : Bool} → x ≡ s → not x ≡ true → s ≡ false
@@ -80,9 +81,9 @@ marked bs byte l k =
     (omega (arith, byte 0, byte 1, byte 2), omega (arith, byte 0, byte 1, byte 2), omega (arith, byte 0, byte 1, byte 2))
 
 -- the mode of a head that is read
-pub mode-read : (bs : List ℕ) {h : Head} → h ≡ headIn bs → h .mode .0 ≡ cell 1 5 bs
+pub mode-read : (bs : List ℕ) (s : Users) {h : Head} → h ≡ leftBy s (headIn bs) → h .mode .0 ≡ cell 1 5 bs
 unfolding headIn
-mode-read bs e = ap (λ (h : Head). h .mode .0) e
+mode-read bs s e = ap (λ (h : Head). h .mode .0) e
 
 -- a count past its limit is found
 pub count-found : (h : Head) {c : Found} {i : ℕ} → c ≡ badCounts h → c ≡ At i → (i < 6) × (badCount h ≡ some (Count (getD countPlaces i 0)))
@@ -110,13 +111,32 @@ count-none h {c = c} e a = go (ltb k 6) refl (sym e ∙ a)
     go true l q = let z : _≡_ {A = ℕ} 0 1 = cc in absurd (omega arith)
     go false l q = rw (six-limits h, l)
 
--- with all before them passed, the rules decide
-pub judgeable : (bs : List ℕ) (h : Head) {c : Found} → h ≡ headIn bs → h .mode .0 ≤ 1 → c ≡ badCounts h → c ≡ found.Nothing → length bs ≡ start h 5 → Judgeable bs h
-judgeable bs h e m f n exact = record { head = e; exact = exact; within = sym (counts-hold h m f (sym (ap nothing n))) }
+-- bytes of the exact length have all that stands before the sections
+pub front-there : (bs : List ℕ) (h : Head) {v : ℕ} → v ≡ versionIn bs → length bs ≡ start v h 5 → fore (versionIn bs) ≤ length bs
+front-there bs h {v = v} e exact = rw (sym e) (omega (arith, start-fore v h 5))
 
-pub by-rules : (bs : List ℕ) (h : Head) {w : Wrong} → h ≡ headIn bs → fault bs ≡ ruleFault (headIn bs) (firstRule (rules (read bs)))
-    → w ≡ wrongIs (ruleFault h (firstRule (rules (read bs)))) → w ≡ wrongIs (fault bs)
-by-rules bs h e r w = w ∙ ap (λ (x : Head). wrongIs (ruleFault x (firstRule (rules (read bs))))) e ∙ ap wrongIs (sym r)
+-- the code's start of section k is that of the bytes
+pub start-read : (bs : List ℕ) (k : ℕ) {v a : ℕ} {h : Head} → a ≡ start v h k → v ≡ versionIn bs → h ≡ headIn bs → a ≡ start (versionIn bs) (headIn bs) k
+start-read bs k e ev eh = e ∙ ap₂ (λ (x : ℕ) (y : Head). start x y k) ev eh
+
+pub start-header : (bs : List ℕ) (s : Users) (k : ℕ) {v a : ℕ} {g : Head} → a ≡ start v g k → v ≡ versionIn bs → g ≡ leftBy s (headIn bs)
+    → a ≡ start (versionIn bs) (headIn bs) k
+start-header bs s k {v = v} e ev eg = start-read bs k (e ∙ ap (λ (x : Head). start v x k) eg ∙ start-left v s (headIn bs) k) ev refl
+
+-- with all before them passed, the rules decide: g is the head where nobody has left, which mode, counts and length are judged by
+pub judgeable : (bs : List ℕ) (v : ℕ) (s : Users) (g h : Head) {c : Found} → v ≡ versionIn bs → g ≡ leftBy s (headIn bs) → h ≡ headIn bs → g .mode .0 ≤ 1
+    → c ≡ badCounts g → c ≡ found.Nothing → length bs ≡ start v g 5 → Judgeable bs v h
+judgeable bs v s g h ev eg eh m f n exact =
+    let same : g ≡ leftBy s h = eg ∙ ap (leftBy s) (sym eh) in
+    record {
+      whole = record { version = ev; head = eh; exact = exact ∙ ap (λ (x : Head). start v x 5) same ∙ start-left v s h 5 };
+      within = sym (counts-left s h) ∙ ap countsOf (sym same) ∙ sym (counts-hold g m f (sym (ap nothing n)));
+    }
+
+pub by-rules : (bs : List ℕ) (v : ℕ) (h : Head) {w : Wrong} → Judgeable bs v h → fault bs ≡ ruleFault (versionIn bs) (headIn bs) (firstRule (rules (read bs)))
+    → w ≡ wrongIs (ruleFault v h (firstRule (rules (read bs)))) → w ≡ wrongIs (fault bs)
+by-rules bs v h k r w =
+    w ∙ ap₂ (λ (x : ℕ) (y : Head). wrongIs (ruleFault x y (firstRule (rules (read bs))))) (k .whole .version) (k .whole .head) ∙ ap wrongIs (sym r)
 
 -- ---- place_of
 
@@ -124,29 +144,27 @@ by-rules bs h e r w = w ∙ ap (λ (x : Head). wrongIs (ruleFault x (firstRule (
 pub row-counted : (h : Head) {s : Spot} {k i : ℕ} → s ≡ Row k i → Counted h s → (k < 5) × (i < getD (counts h) k 0)
 row-counted h e c = subst (Counted h) e c
 
-pub row-within-book : (h : Head) (k i : ℕ) → k < 5 → i < getD (counts h) k 0 → start h k + i * getD widths k 0 ≤ start h 5
-row-within-book h k i l m =
-    omega (arith, start-next h k, start-le h (suc k), row-within i (getD (counts h) k 0) (getD widths k 0) m)
+pub row-within-book : (v : ℕ) (h : Head) (k i : ℕ) → k < 5 → i < getD (counts h) k 0 → start v h k + i * getD widths k 0 ≤ start v h 5
+row-within-book v h k i l m =
+    omega (arith, start-next v h k, start-le v h (suc k), row-within i (getD (counts h) k 0) (getD widths k 0) m)
 
-pub row-place : (h : Head) {s : Spot} {k i a : ℕ} → s ≡ Row k i → a ≡ start h k → a + i * getD widths k 0 ≡ placeOf h s
+pub row-place : (v : ℕ) (h : Head) {s : Spot} {k i a : ℕ} → s ≡ Row k i → a ≡ start v h k → a + i * getD widths k 0 ≡ placeOf v h s
 unfolding placeOf
-row-place h {k = k} {i = i} e p = ap (λ (n : ℕ). n + i * getD widths k 0) p ∙ sym (ap (placeOf h) e)
+row-place v h {k = k} {i = i} e p = ap (λ (n : ℕ). n + i * getD widths k 0) p ∙ sym (ap (placeOf v h) e)
 
-pub missing-place : (h : Head) {s : Spot} → s ≡ Missing → 65535 ≡ placeOf h s
+pub leavers-place : (v : ℕ) (h : Head) {s : Spot} → s ≡ Leavers → 17 ≡ placeOf v h s
 unfolding placeOf
-missing-place h e = sym (ap (placeOf h) e)
+leavers-place v h e = sym (ap (placeOf v h) e)
+
+pub missing-place : (v : ℕ) (h : Head) {s : Spot} → s ≡ Missing → 65535 ≡ placeOf v h s
+unfolding placeOf
+missing-place v h e = sym (ap (placeOf v h) e)
 
 -- ---- rule_fault
 
--- the book in the stretches between the starts is the one that is read
-pub read-parts : (bs : List ℕ) (h : Head) (a b c d : ℕ) → h ≡ headIn bs → length bs ≡ start h 5 → Cuts h a b c d → bookIn h (parts bs a b c d) ≡ read bs
-unfolding read
-read-parts bs h a b c d e exact cut =
-    ap₂ bookIn e (sections-cut bs a b c d (exact ∙ ap (λ (k : Head). start k 5) e) (subst (λ (k : Head). Cuts k a b c d) e cut))
-
--- they hold the rows that the head counts
-pub parts-room : (bs : List ℕ) (h : Head) (a b c d : ℕ) → length bs ≡ start h 5 → Cuts h a b c d → Room h (parts bs a b c d)
-parts-room bs h a b c d exact cut = record {
+-- the stretches between the starts hold the rows that the head counts
+pub parts-room : (bs : List ℕ) (v : ℕ) (h : Head) (z a b c d : ℕ) → length bs ≡ start v h 5 → Cuts v h z a b c d → Room h (parts bs z a b c d)
+parts-room bs v h z a b c d exact cut = record {
   innerVertices = simp (length-take, length-drop) (omega arith);
   innerTokens = simp (length-take, length-drop) (omega arith);
   outerVertices = simp (length-take, length-drop) (omega arith);
@@ -155,9 +173,11 @@ parts-room bs h a b c d exact cut = record {
 }
 
 -- what the rules say j of the book in these stretches, they say of the one that is read
-pub read-judged : (bs : List ℕ) (h : Head) (a b c d : ℕ) {j : Judged} → Judgeable bs h → Cuts h a b c d → j ≡ judgedIs (firstRule (rules (bookIn h (parts bs a b c d))))
-    → j ≡ judgedIs (firstRule (rules (read bs)))
-read-judged bs h a b c d k cut e = e ∙ ap (λ (x : Book). judgedIs (firstRule (rules x))) (read-parts bs h a b c d (k .head) (k .exact) cut)
+pub read-judged : (bs : List ℕ) (v : ℕ) (h : Head) (z a b c d : ℕ) {j : Judged} → Judgeable bs v h → Cuts v h z a b c d
+    → j ≡ judgedIs (firstRule (rules (bookIn h (parts bs z a b c d)))) → j ≡ judgedIs (firstRule (rules (read bs)))
+unfolding read
+read-judged bs v h z a b c d k cut e =
+    e ∙ ap (λ (x : Book). judgedIs (firstRule (rules x))) (ap₂ bookIn (k .whole .head) (sections-cut bs v h z a b c d (k .whole) cut))
 
 judged-none : (o : Option (Letter × Spot)) → judged.Sound ≡ judgedIs o → o ≡ none
 judged-none none e = refl
@@ -179,30 +199,38 @@ counted h t s e = go s (subst (λ (x : Head). There (counts x) s) (head-in h t) 
 
     go : (s : Spot) → There (counts h) s → Counted h s
     go (Row k i) e = e
+    go Leavers e = tt
     go Missing e = tt
 
 -- a row that is told is one that the head counts
-pub spot-counted : (bs : List ℕ) (h : Head) (s : Spot) {j : Judged} {l : Letter} → Judgeable bs h → j ≡ judgedIs (firstRule (rules (read bs))) → j ≡ Breaks l s → Counted h s
+pub spot-counted : (bs : List ℕ) (v : ℕ) (h : Head) (s : Spot) {j : Judged} {l : Letter} → Judgeable bs v h → j ≡ judgedIs (firstRule (rules (read bs))) → j ≡ Breaks l s
+    → Counted h s
 unfolding read
-spot-counted bs h s k e a =
-    subst (λ (x : Head). Counted x s) (sym (k .head)) (counted (headIn bs) (sections bs) s (spot-there (read bs) (judged-some (firstRule (rules (read bs))) (sym a ∙ e))))
+spot-counted bs v h s k e a =
+    subst (λ (x : Head). Counted x s) (sym (k .whole .head)) (counted (headIn bs) (sections bs) s (spot-there (read bs) (judged-some (firstRule (rules (read bs))) (sym a ∙ e))))
 
-pub rule-nothing : (h : Head) (b : Book) {j : Judged} → j ≡ judgedIs (firstRule (rules b)) → j ≡ judged.Sound → Nothing ≡ wrongIs (ruleFault h (firstRule (rules b)))
+pub rule-nothing : (v : ℕ) (h : Head) (b : Book) {j : Judged} → j ≡ judgedIs (firstRule (rules b)) → j ≡ judged.Sound → Nothing ≡ wrongIs (ruleFault v h (firstRule (rules b)))
 unfolding ruleFault
-rule-nothing h b e a = rw (judged-none (firstRule (rules b)) (sym a ∙ e))
+rule-nothing v h b e a = rw (judged-none (firstRule (rules b)) (sym a ∙ e))
 
-pub rule-first : (h : Head) (b : Book) {j : Judged} {l : Letter} {s : Spot} {at : ℕ} → j ≡ judgedIs (firstRule (rules b)) → j ≡ Breaks l s → at ≡ placeOf h s
-    → First (Rule l s at) ≡ wrongIs (ruleFault h (firstRule (rules b)))
+pub rule-first : (v : ℕ) (h : Head) (b : Book) {j : Judged} {l : Letter} {s : Spot} {at : ℕ} → j ≡ judgedIs (firstRule (rules b)) → j ≡ Breaks l s → at ≡ placeOf v h s
+    → First (Rule l s at) ≡ wrongIs (ruleFault v h (firstRule (rules b)))
 unfolding ruleFault
-rule-first h b {l = l} {s = s} e a p = rw (judged-some (firstRule (rules b)) (sym a ∙ e)) (ap (λ (n : ℕ). First (Rule l s n)) p)
+rule-first v h b {l = l} {s = s} e a p = rw (judged-some (firstRule (rules b)) (sym a ∙ e)) (ap (λ (n : ℕ). First (Rule l s n)) p)
 
 -- ---- section
 
-pub section-within : (bs : List ℕ) (k a b : ℕ) → isBook bs ≡ true → a ≡ start (headIn bs) k → b ≡ start (headIn bs) (k + 1) → (a ≤ b) × (b ≤ length bs)
+-- a book has all that stands before its sections
+pub book-front : (bs : List ℕ) → isBook bs ≡ true → fore (versionIn bs) ≤ length bs
+book-front bs e = front-there bs (headIn bs) refl (book-bytes bs e .exact)
+
+pub section-within : (bs : List ℕ) (k a b : ℕ) → isBook bs ≡ true → a ≡ start (versionIn bs) (headIn bs) k → b ≡ start (versionIn bs) (headIn bs) (k + 1)
+    → (a ≤ b) × (b ≤ length bs)
 section-within bs k a b e ea eb =
-    let exact : length bs ≡ start (headIn bs) 5 = book-bytes bs e .exact in
-    let next : b ≡ start (headIn bs) (suc k) = eb ∙ ap (start (headIn bs)) (add-one k) in
-    (omega (arith, start-next (headIn bs) k), omega (arith, start-le (headIn bs) (suc k)))
+    let v = versionIn bs in
+    let exact : Exact bs = book-bytes bs e .exact in
+    let next : b ≡ start v (headIn bs) (suc k) = eb ∙ ap (start v (headIn bs)) (add-one k) in
+    (omega (arith, start-next v (headIn bs) k), omega (arith, start-le v (headIn bs) (suc k)))
 
 -- the bytes are a book where nothing is wrong, and else f is wrong first
 pub book-nothing : (bs : List ℕ) {w : Wrong} → w ≡ wrongIs (fault bs) → w ≡ Nothing → isBook bs ≡ true
@@ -229,21 +257,20 @@ pub section-none : (bs : List ℕ) (k : ℕ) → isBook bs ≡ true → 5 ≤ k 
 unfolding sectionCall partBy refusalSection firstSome faultyBy when
 section-none bs k e l = rw (fault-none bs .1 e, le-ltb k 5 l)
 
-pub section-given : (bs : List ℕ) (k a b : ℕ) → isBook bs ≡ true → k < 5 → a ≡ start (headIn bs) k → b ≡ start (headIn bs) (k + 1)
+pub section-given : (bs : List ℕ) (k a b : ℕ) → isBook bs ≡ true → k < 5 → a ≡ start (versionIn bs) (headIn bs) k → b ≡ start (versionIn bs) (headIn bs) (k + 1)
     → part (take (b - a) (drop a bs)) 0 0 ≡ sectionCall bs k
 unfolding sectionCall partBy refusalSection firstSome faultyBy when
 section-given bs k a b e l ea eb =
-    rw (fault-none bs .1 e, lt-ltb k 5 l) (ap (λ (s : List ℕ). part s 0 0) (section-cut bs k a b ea (eb ∙ ap (start (headIn bs)) (add-one k))))
+    rw (fault-none bs .1 e, lt-ltb k 5 l) (ap (λ (s : List ℕ). part s 0 0) (section-cut bs k a b ea (eb ∙ ap (start (versionIn bs) (headIn bs)) (add-one k))))
 
 -- ---- read
 
-pub loadable : (bs : List ℕ) (h : Head) (t : Tables) → h ≡ headIn bs → short t ≡ false → isBook bs ≡ true → Loadable bs h t
-loadable bs h t e s k =
+pub loadable : (bs : List ℕ) (v : ℕ) (h : Head) (t : Tables) → v ≡ versionIn bs → h ≡ headIn bs → short t ≡ false → isBook bs ≡ true → Loadable bs v h t
+loadable bs v h t ev eh s k =
     let b : BookBytes bs = book-bytes bs k in
     record {
-      head = e;
-      exact = b .exact ∙ ap (λ (x : Head). start x 5) (sym e);
-      room = subst (λ (x : Head). Room x t) (head-read bs ∙ sym e) (sound-room (read bs) t (b .sound′) s);
+      whole = record { version = ev; head = eh; exact = b .exact ∙ ap₂ (λ (x : ℕ) (y : Head). start x y 5) (sym ev) (sym eh) };
+      room = subst (λ (x : Head). Room x t) (head-read bs ∙ sym eh) (sound-room (read bs) t (b .sound′) s);
     }
 
 pub read-short : (bs : List ℕ) (t : Tables) → short t ≡ true → loading (load.No (Refused ShortTable)) t ≡ readCall bs t
@@ -280,7 +307,7 @@ pub checked-no : (h : Head) (t : Tables) (r : Refusal) {k : Checked} → k ≡ N
 unfolding checked
 checked-no h t r p q = by-some (verdict (common t (bookIn h t))) r (sym p ∙ q)
 
-pub savable : (h : Head) (t : Tables) (buffer : List ℕ) → short t ≡ false → sound (bookIn h t) ≡ true → start h 5 ≤ length buffer → Savable h t buffer
+pub savable : (h : Head) (t : Tables) (buffer : List ℕ) → short t ≡ false → sound (bookIn h t) ≡ true → start newest h 5 ≤ length buffer → Savable h t buffer
 unfolding bookIn
 savable h t buffer s k l =
     let f : BookFits (bookIn h t) = sound-fits (bookIn h t) k in
@@ -291,22 +318,22 @@ savable h t buffer s k l =
       long = l;
     }
 
-length-saved : (h : Head) (t : Tables) → length (write (bookIn h t)) ≡ start h 5
-length-saved h t = length-write (bookIn h t) ∙ ap (λ (x : Head). start x 5) (head-in h t)
+length-saved : (h : Head) (t : Tables) → length (write (bookIn h t)) ≡ start newest h 5
+length-saved h t = length-write (bookIn h t) ∙ ap (λ (x : Head). start newest x 5) (head-in h t)
 
 -- 13 and 12
 pub write-refused : (h : Head) (t : Tables) (buffer : List ℕ) (r : Refusal) → verdict (common t (bookIn h t)) ≡ some r → writing (store.No r) buffer ≡ writeCall h t buffer
 unfolding writeCall writeBy refusalWrite
 write-refused h t buffer r e = rw (verdict-first (common t (bookIn h t)) ((ShortList, ltb (length buffer) (length (write (bookIn h t)))) ∷ []) e)
 
-pub write-short : (h : Head) (t : Tables) (buffer : List ℕ) → short t ≡ false → sound (bookIn h t) ≡ true → length buffer < start h 5
+pub write-short : (h : Head) (t : Tables) (buffer : List ℕ) → short t ≡ false → sound (bookIn h t) ≡ true → length buffer < start newest h 5
     → writing (store.No ShortList) buffer ≡ writeCall h t buffer
 unfolding writeCall writeBy refusalWrite verdict
 write-short h t buffer s k l =
-    rw (common-passed t (bookIn h t) ((ShortList, ltb (length buffer) (length (write (bookIn h t)))) ∷ []) s k, length-saved h t, lt-ltb (length buffer) (start h 5) l)
+    rw (common-passed t (bookIn h t) ((ShortList, ltb (length buffer) (length (write (bookIn h t)))) ∷ []) s k, length-saved h t, lt-ltb (length buffer) (start newest h 5) l)
 
-pub write-given : (h : Head) (t : Tables) (buffer v : List ℕ) (n : ℕ) → short t ≡ false → sound (bookIn h t) ≡ true → start h 5 ≤ length buffer
-    → n ≡ start h 5 → v ≡ stored 0 (write (bookIn h t)) buffer → writing (store.Bytes n) v ≡ writeCall h t buffer
+pub write-given : (h : Head) (t : Tables) (buffer v : List ℕ) (n : ℕ) → short t ≡ false → sound (bookIn h t) ≡ true → start newest h 5 ≤ length buffer
+    → n ≡ start newest h 5 → v ≡ stored 0 (write (bookIn h t)) buffer → writing (store.Bytes n) v ≡ writeCall h t buffer
 unfolding writeCall writeBy refusalWrite verdict
 write-given h t buffer v n s k l en ev =
     rw (common-passed t (bookIn h t) ((ShortList, ltb (length buffer) (length (write (bookIn h t)))) ∷ []) s k, le-ltb (length buffer) (length (write (bookIn h t))) (omega (arith, length-saved h t)))

@@ -1,4 +1,4 @@
--- Reading and writing undo each other, as calls: what a write leaves is read as the same head and rows, and what a read leaves is written as the same bytes.
+-- Reading and writing undo each other, as calls: what a write leaves is read as the same head and rows, and what a read leaves is written as the same bytes, in the newest version.
 -- Assumes nothing.
 use Prim.Native.Nat.{ℕ, _≤_}
 use mathlib.Core.Path.{_≡_, refl, sym, ap, ap₂, subst, _∙_}
@@ -13,7 +13,7 @@ use Rattle.rows.proofs.Laws.{stored-first}
 use Rattle.rules.specs.Book.{Book}
 use Rattle.rules.specs.Sound.{sound}
 use Rattle.rules.specs.Tests.{when, firstSome}
-use Rattle.rules.specs.Bytes.{Bytes, Tables, headIn, start, read, fault, isBook, bookIn, laid, write}
+use Rattle.rules.specs.Bytes.{Bytes, Tables, newest, versionIn, headOf, headIn, start, read, fault, isBook, renewed, bookIn, laid, write}
 use Rattle.rules.specs.Refusals.{short, faultyBy, refusalRead, refusalWrite}
 use Rattle.rules.specs.Calls.{loading, loadBy, readCall, writing, writeBy, writeCall}
 use Rattle.rules.specs.declared.Head.{Head}
@@ -27,7 +27,7 @@ use Rattle.rules.specs.declared.Stored.the-variants as store
 use Rattle.theorems.proofs.RequestLaws.{common-none}
 use Rattle.theorems.proofs.FaultLaws.{fault-none}
 use Rattle.theorems.proofs.ByteLaws.{sound-fits, sound-book-laid, sound-room, short-laid, head-in}
-use Rattle.theorems.proofs.WriteLaws.{BookBytes, book-bytes, head-write, is-book, sound-read-write, write-read, read-laid}
+use Rattle.theorems.proofs.WriteLaws.{BookBytes, book-bytes, head-read, head-write, length-write, is-book, sound-read-write, write-read, is-renewed, read-renewed, read-laid}
 use Rattle.book.proofs.Answers.{read-given, write-given}
 
 -- ---- what an answer tells
@@ -97,24 +97,42 @@ same-rows h t u buffer n a s =
 
 -- ---- writing what was read
 
--- the head and tables that a read left are written, into any buffer with room: as long as the bytes that were read, and the same
-pub read-written : (bs : List ℕ) (t : Tables) (h : Head) (buffer : List ℕ) → Bytes bs → readCall bs t .answer ≡ load.Is h → length bs ≤ length buffer
-    → writeCall h (readCall bs t .tables) buffer ≡ writing (store.Bytes (length bs)) (stored 0 bs buffer)
+-- the head and tables that a read left are written, into any buffer with room: the bytes that were read, in the newest version
+pub read-written : (bs : List ℕ) (t : Tables) (h : Head) (buffer : List ℕ) → Bytes bs → readCall bs t .answer ≡ load.Is h → length (renewed bs) ≤ length buffer
+    → writeCall h (readCall bs t .tables) buffer ≡ writing (store.Bytes (length (renewed bs))) (stored 0 (renewed bs) buffer)
 read-written bs t h buffer byte a room =
     let l : Loads bs t h = loads bs t h a in
     let k : BookBytes bs = book-bytes bs (l .book) in
     let u : Tables = laid (read bs) t in
     let same : bookIn h u ≡ read bs = ap (λ (x : Head). bookIn x u) (l .head) ∙ read-laid bs t (l .book) in
     let long : short u ≡ false = short-laid (read bs) t (sound-room (read bs) t (k .sound′) (l .long)) ∙ l .long in
-    let end : length bs ≡ start h 5 = k .exact ∙ ap (λ (x : Head). start x 5) (sym (l .head)) in
+    let new : write (read bs) ≡ renewed bs = write-read bs byte (l .book) in
+    let end : length (renewed bs) ≡ start newest h 5 = ap length (sym new) ∙ length-write (read bs) ∙ ap (λ (x : Head). start newest x 5) (head-read bs ∙ sym (l .head)) in
     ap (λ (x : Tables). writeCall h x buffer) (l .tables′)
     ∙ sym (
-    write-given h u buffer (stored 0 bs buffer) (length bs) long (ap sound same ∙ k .sound′) (omega arith) end
-    (ap (λ (x : List ℕ). stored 0 x buffer) (sym (ap write same ∙ write-read bs byte (l .book))))
+    write-given h u buffer (stored 0 (renewed bs) buffer) (length (renewed bs)) long (ap sound same ∙ k .sound′) (omega arith) end
+    (ap (λ (x : List ℕ). stored 0 x buffer) (sym (ap write same ∙ new)))
     )
 
--- the buffer then begins with the bytes that were read
-pub same-bytes : (bs : List ℕ) (t : Tables) (h : Head) (buffer : List ℕ) → Bytes bs → readCall bs t .answer ≡ load.Is h → length bs ≤ length buffer
+-- the buffer then begins with them
+pub new-bytes : (bs : List ℕ) (t : Tables) (h : Head) (buffer : List ℕ) → Bytes bs → readCall bs t .answer ≡ load.Is h → length (renewed bs) ≤ length buffer
+    → take (length (renewed bs)) (writeCall h (readCall bs t .tables) buffer .buffer) ≡ renewed bs
+new-bytes bs t h buffer byte a room =
+    ap (λ w. take (length (renewed bs)) (w .buffer)) (read-written bs t h buffer byte a room) ∙ stored-first (renewed bs) buffer
+
+-- with the very bytes that were read, where they are of that version
+pub same-bytes : (bs : List ℕ) (t : Tables) (h : Head) (buffer : List ℕ) → Bytes bs → versionIn bs ≡ newest → readCall bs t .answer ≡ load.Is h → length bs ≤ length buffer
     → take (length bs) (writeCall h (readCall bs t .tables) buffer .buffer) ≡ bs
-same-bytes bs t h buffer byte a room =
-    ap (λ w. take (length bs) (w .buffer)) (read-written bs t h buffer byte a room) ∙ stored-first bs buffer
+unfolding renewed
+same-bytes bs t h buffer byte v a room =
+    let same : renewed bs ≡ bs = rw v in
+    subst (λ (x : List ℕ). length x ≤ length buffer → take (length x) (writeCall h (readCall bs t .tables) buffer .buffer) ≡ x) same (new-bytes bs t h buffer byte a) room
+
+-- a book of version 1 and what is written of it are read as the same head and rows
+pub read-again : (bs : List ℕ) (t u : Tables) (h : Head) → Bytes bs → readCall bs t .answer ≡ load.Is h → short u ≡ false
+    → readCall (renewed bs) u ≡ loading (load.Is h) (laid (read bs) u)
+read-again bs t u h byte a s =
+    let l : Loads bs t h = loads bs t h a in
+    let same : read (renewed bs) ≡ read bs = read-renewed bs byte (l .book) in
+    let head : h ≡ headIn (renewed bs) = l .head ∙ sym (head-read bs) ∙ ap headOf (sym same) ∙ head-read (renewed bs) in
+    sym (read-given (renewed bs) h u (laid (read bs) u) s (is-renewed bs byte (l .book)) head (ap (λ (x : Book). laid x u) (sym same)))

@@ -17,6 +17,7 @@ use rules::Stored;
 use rules::WIDTHS;
 use rules::fault_number;
 use rules::fault_place;
+use sets::Users;
 use sound::Checked;
 use sound::check;
 use sound::every::Judged;
@@ -24,15 +25,19 @@ use sound::every::bad_count;
 use sound::every::first_rule;
 use sound::long_enough;
 ghost use mathlib.Core.Path.{_≡_};
+ghost use mathlib.Core.Bool.{_||_};
+ghost use mathlib.Core.List.{_++_};
 ghost use Prim.Native.Nat.{_+_, _*_, _≤_, _<_};
+ghost use lib.Dec.{eqb};
 ghost use lib.ListN.{length, take, getD};
 ghost use Rattle.rows.specs.Number.{stored};
+ghost use Rattle.sets.specs.Words.{bytes, setIn};
 ghost use Rattle.book.specs.Ready.{Loadable, Savable, Judgeable, Counted};
 ghost use Rattle.book.specs.Wrongs.{wrongIs};
 ghost use Rattle.rules.specs.Tests.{firstRule};
 ghost use Rattle.rules.specs.Sound.{rules};
 ghost use Rattle.rules.specs.Calls.{sectionCall, readCall, writeCall, part, loading, writing};
-ghost use Rattle.rules.specs.Bytes.{fault, ruleFault, placeOf, tables, headIn, header, counts, start, laid, read, bookIn, write};
+ghost use Rattle.rules.specs.Bytes.{newest, fault, ruleFault, placeOf, tables, versionIn, fore, leaversIn, headIn, setRow, header, counts, start, laid, read, bookIn, write, leftBy, headerBytes, known};
 
 // What is wrong with bytes: RULES 9.10.
 pub enum Wrong {
@@ -40,13 +45,54 @@ pub enum Wrong {
     First(Fault),
 }
 
+// The bytes of the header: RULES 9.2.
+pub const HEADER: usize = 17;
+
+// The version that is written.
+const NEWEST: u16 = 2;
+
 // Where each count starts in the header.
 const COUNT_PLACES: [usize; 6] = [6, 7, 9, 11, 13, 15];
 
-// The head that a book's first 17 bytes give.
-pub fn head_in(bytes: &[u8]) -> Head
-    requires { ⌜ 17 ≤ length (now bytes) ⌝ }
-    ensures { λ r. ⌜ r ≡ headIn (now (bytes .entry)) ⌝ }
+pub fn version_in(bytes: &[u8]) -> u16
+    requires { ⌜ headerBytes ≤ length (now bytes) ⌝ }
+    ensures { λ r. ⌜ r ≡ versionIn (now (bytes .entry)) ⌝ }
+{
+    rows::get2(bytes, 3)
+}
+
+// Whether a version can be read.
+fn known(version: u16) -> bool
+    ensures { λ r. ⌜ r ≡ known version ⌝ }
+{
+    version == 1 || version == NEWEST
+}
+
+// Where the sections of a version start: version 1 has no set of leavers.
+fn fore(version: u16) -> usize
+    ensures { λ r. ⌜ r ≡ fore version ⌝ }
+{
+    if version == 1 {
+        return HEADER;
+    }
+    HEADER + Users::WIDTH
+}
+
+// The users who have left, in version 1 nobody.
+fn leavers_in(bytes: &[u8]) -> Users
+    requires { ⌜ fore (versionIn (now bytes)) ≤ length (now bytes) ⌝ }
+    ensures { λ r. ⌜ setIn r ≡ leaversIn (now (bytes .entry)) ⌝ }
+{
+    if version_in(bytes) == 1 {
+        return Users::empty();
+    }
+    Users::read(bytes, HEADER)
+}
+
+// The head that the header gives, where these have left.
+pub fn header_in(bytes: &[u8], leavers: Users) -> Head
+    requires { ⌜ headerBytes ≤ length (now bytes) ⌝ }
+    ensures { λ r. ⌜ r ≡ leftBy leavers (headIn (now (bytes .entry))) ⌝ }
 {
     let mode = Mode(bytes[5] as u16);
     let users = Joined::new(bytes[6] as u16);
@@ -63,18 +109,28 @@ pub fn head_in(bytes: &[u8]) -> Head
         inner_tokens,
         outer_vertices,
         outer_tokens,
+        leavers,
     }
 }
 
-// The header of a book, into the first 17 bytes.
-fn put_header(buffer: &mut [u8], h: Head)
-    requires { ⌜ (17 ≤ length (now buffer)) × (h .mode .0 < 256) × (h .users .0 < 256) ⌝ }
-    ensures { λ _. ⌜ now (buffer .exit) ≡ stored 0 (header h) (now (buffer .entry)) ⌝ }
+// The head of a book's bytes: the header, and the set of leavers behind it.
+pub fn head_in(bytes: &[u8]) -> Head
+    requires { ⌜ fore (versionIn (now bytes)) ≤ length (now bytes) ⌝ }
+    ensures { λ r. ⌜ r ≡ headIn (now (bytes .entry)) ⌝ }
+{
+    let leavers = leavers_in(bytes);
+    header_in(bytes, leavers)
+}
+
+// What stands before the sections: the header and the set of leavers.
+fn put_front(buffer: &mut [u8], h: Head)
+    requires { ⌜ (headerBytes + bytes ≤ length (now buffer)) × (h .mode .0 < 256) × (h .users .0 < 256) ⌝ }
+    ensures { λ _. ⌜ now (buffer .exit) ≡ stored 0 (header h ++ setRow (setIn (h .leavers))) (now (buffer .entry)) ⌝ }
 {
     buffer[0] = 0x54;
     buffer[1] = 0x4B;
     buffer[2] = 0x42;
-    rows::put2(buffer, 3, 1);
+    rows::put2(buffer, 3, NEWEST);
     buffer[5] = h.mode.0 as u8;
     buffer[6] = h.users.0 as u8;
     rows::put2(buffer, 7, h.resources.0);
@@ -82,6 +138,7 @@ fn put_header(buffer: &mut [u8], h: Head)
     rows::put2(buffer, 11, h.inner_tokens.0);
     rows::put2(buffer, 13, h.outer_vertices.0);
     rows::put2(buffer, 15, h.outer_tokens.0);
+    h.leavers.write(buffer, HEADER);
 }
 
 // How many rows section k has.
@@ -98,12 +155,12 @@ fn count_of(h: Head, k: usize) -> usize
     }
 }
 
-// Where section k starts; 5 is the end.
-pub fn start_of(h: Head, k: usize) -> usize
+// Where section k of a version starts; 5 is the end.
+pub fn start_of(version: u16, h: Head, k: usize) -> usize
     requires { ⌜ k ≤ 5 ⌝ }
-    ensures { λ r. ⌜ r ≡ start h k ⌝ }
+    ensures { λ r. ⌜ r ≡ start version h k ⌝ }
 {
-    let mut at: usize = 17;
+    let mut at: usize = fore(version);
     let mut i: usize = 0;
     while i < k {
         at += count_of(h, i) * WIDTHS[i];
@@ -127,6 +184,7 @@ fn copy(from: &[u8], to: &mut [u8])
 // The five sections of a book into five tables.
 fn load(
     bytes: &[u8],
+    version: u16,
     h: Head,
     iv: &mut [u8],
     it: &mut [u8],
@@ -134,14 +192,15 @@ fn load(
     ot: &mut [u8],
     rs: &mut [u8],
 )
-    requires { ⌜ Loadable (now bytes) h (tables (now iv) (now it) (now ov) (now ot) (now rs)) ⌝ }
+    requires { ⌜ Loadable (now bytes) version h (tables (now iv) (now it) (now ov) (now ot) (now rs)) ⌝ }
     ensures { λ _. ⌜ (tables (now (iv .exit)) (now (it .exit)) (now (ov .exit)) (now (ot .exit)) (now (rs .exit))) ≡ laid (read (now (bytes .entry))) (tables (now (iv .entry)) (now (it .entry)) (now (ov .entry)) (now (ot .entry)) (now (rs .entry))) ⌝ }
 {
-    let a = start_of(h, 1);
-    let b = start_of(h, 2);
-    let c = start_of(h, 3);
-    let d = start_of(h, 4);
-    copy(&bytes[17..a], iv);
+    let z = start_of(version, h, 0);
+    let a = start_of(version, h, 1);
+    let b = start_of(version, h, 2);
+    let c = start_of(version, h, 3);
+    let d = start_of(version, h, 4);
+    copy(&bytes[z..a], iv);
     copy(&bytes[a..b], it);
     copy(&bytes[b..c], ov);
     copy(&bytes[c..d], ot);
@@ -156,46 +215,49 @@ fn put(table: &[u8], n: usize, buffer: &mut [u8], at: usize)
     copy(&table[..n], &mut buffer[at..]);
 }
 
-// Header and sections, one after the other.
+// Header, set of leavers and sections, one after the other.
 fn save(h: Head, iv: &[u8], it: &[u8], ov: &[u8], ot: &[u8], rs: &[u8], buffer: &mut [u8])
     requires { ⌜ Savable h (tables (now iv) (now it) (now ov) (now ot) (now rs)) (now buffer) ⌝ }
     ensures { λ _. ⌜ now (buffer .exit) ≡ stored 0 (write (bookIn h (tables (now (iv .entry)) (now (it .entry)) (now (ov .entry)) (now (ot .entry)) (now (rs .entry))))) (now (buffer .entry)) ⌝ }
 {
-    put_header(buffer, h);
-    let a = start_of(h, 1);
-    let b = start_of(h, 2);
-    let c = start_of(h, 3);
-    let d = start_of(h, 4);
-    put(iv, a - 17, buffer, 17);
+    put_front(buffer, h);
+    let z = start_of(NEWEST, h, 0);
+    let a = start_of(NEWEST, h, 1);
+    let b = start_of(NEWEST, h, 2);
+    let c = start_of(NEWEST, h, 3);
+    let d = start_of(NEWEST, h, 4);
+    put(iv, a - z, buffer, z);
     put(it, b - a, buffer, a);
     put(ov, c - b, buffer, b);
     put(ot, d - c, buffer, c);
-    put(rs, start_of(h, 5) - d, buffer, d);
+    put(rs, start_of(NEWEST, h, 5) - d, buffer, d);
 }
 
-// Where the row starts at which a rule is broken; a missing vertex has none.
-fn place_of(h: Head, s: Spot) -> usize
+// Where the row, or the set of leavers, starts at which a rule is broken; a missing vertex has none.
+fn place_of(version: u16, h: Head, s: Spot) -> usize
     requires { ⌜ Counted h s ⌝ }
-    ensures { λ r. ⌜ r ≡ placeOf h s ⌝ }
+    ensures { λ r. ⌜ r ≡ placeOf version h s ⌝ }
 {
     match s {
-        Spot::Row(k, i) => start_of(h, k) + i * WIDTHS[k],
+        Spot::Row(k, i) => start_of(version, h, k) + i * WIDTHS[k],
+        Spot::Leavers => HEADER,
         Spot::Missing => 65535,
     }
 }
 
 // The first rule that the book in the bytes breaks, where header and length are right.
-fn rule_fault(bytes: &[u8], h: Head) -> Wrong
-    requires { ⌜ Judgeable (now bytes) h ⌝ }
-    ensures { λ r. ⌜ r ≡ wrongIs (ruleFault h (firstRule (rules (read (now (bytes .entry)))))) ⌝ }
+fn rule_fault(bytes: &[u8], version: u16, h: Head) -> Wrong
+    requires { ⌜ Judgeable (now bytes) version h ⌝ }
+    ensures { λ r. ⌜ r ≡ wrongIs (ruleFault version h (firstRule (rules (read (now (bytes .entry)))))) ⌝ }
 {
-    let a = start_of(h, 1);
-    let b = start_of(h, 2);
-    let c = start_of(h, 3);
-    let d = start_of(h, 4);
+    let z = start_of(version, h, 0);
+    let a = start_of(version, h, 1);
+    let b = start_of(version, h, 2);
+    let c = start_of(version, h, 3);
+    let d = start_of(version, h, 4);
     let j = first_rule(
         h,
-        &bytes[17..a],
+        &bytes[z..a],
         &bytes[a..b],
         &bytes[b..c],
         &bytes[c..d],
@@ -203,24 +265,25 @@ fn rule_fault(bytes: &[u8], h: Head) -> Wrong
     );
     match j {
         Judged::Sound => Wrong::Nothing,
-        Judged::Breaks(l, s) => Wrong::First(Fault::Rule(l, s, place_of(h, s))),
+        Judged::Breaks(l, s) => Wrong::First(Fault::Rule(l, s, place_of(version, h, s))),
     }
 }
 
-// The first fault of bytes, in the order of RULES 9.10.
+// The first fault of bytes, in the order of RULES 9.10. The set of leavers is read only where the length is right: there may be no such bytes.
 pub fn first_fault(bytes: &[u8]) -> Wrong
     ensures { λ r. ⌜ r ≡ wrongIs (fault (now (bytes .entry))) ⌝ }
 {
-    if bytes.len() < 17 {
+    if bytes.len() < HEADER {
         return Wrong::First(Fault::Length(bytes.len()));
     }
     if bytes[0] != 0x54 || bytes[1] != 0x4B || bytes[2] != 0x42 {
         return Wrong::First(Fault::Mark);
     }
-    if rows::get2(bytes, 3) != 1 {
+    let version = version_in(bytes);
+    if !known(version) {
         return Wrong::First(Fault::Version);
     }
-    let h = head_in(bytes);
+    let h = header_in(bytes, Users::empty());
     if h.mode.0 > 1 {
         return Wrong::First(Fault::Mode);
     }
@@ -232,10 +295,10 @@ pub fn first_fault(bytes: &[u8]) -> Wrong
         }
         Found::Nothing => {}
     }
-    if bytes.len() != start_of(h, 5) {
+    if bytes.len() != start_of(version, h, 5) {
         return Wrong::First(Fault::Length(bytes.len()));
     }
-    rule_fault(bytes, h)
+    rule_fault(bytes, version, head_in(bytes))
 }
 
 // A section of a book, "a part of the very bytes that were lent" (RULES 9.8); the refusal's number and place, or 0 and 0, go to the cells.
@@ -257,9 +320,10 @@ pub fn section<'a>(bytes: &'a [u8], k: usize, cell: &mut u16, place: &mut usize)
         return &bytes[0..0];
     }
     *cell = 0;
+    let version = version_in(bytes);
     let h = head_in(bytes);
-    let from = start_of(h, k);
-    let to = start_of(h, k + 1);
+    let from = start_of(version, h, k);
+    let to = start_of(version, h, k + 1);
     &bytes[from..to]
 }
 
@@ -283,7 +347,7 @@ pub fn read(
         Wrong::Nothing => {}
     }
     let h = head_in(bytes);
-    load(bytes, h, iv, it, ov, ot, rs);
+    load(bytes, version_in(bytes), h, iv, it, ov, ot, rs);
     Loaded::Is(h)
 }
 
@@ -303,7 +367,7 @@ pub fn write(
     match k {
         Checked::No(r) => Stored::No(r),
         Checked::Sound => {
-            let end = start_of(h, 5);
+            let end = start_of(NEWEST, h, 5);
             if buffer.len() < end {
                 return Stored::No(Refusal::ShortList);
             }

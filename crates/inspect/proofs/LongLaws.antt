@@ -7,23 +7,25 @@ use mathlib.Core.Option.{Option, some, none}
 use mathlib.Core.Path.{_≡_, refl, sym, ap, _∙_}
 use native.Mathlib.Omega.{arith}
 use lib.Dec.{eqb, ltb, leb}
-use lib.ListN.{length, take, drop, getD, length-append, length-take, length-drop, take-append-drop}
+use lib.ListN.{length, drop, getD, length-append, length-drop, take-append-drop}
 use lib.Seq.{take-all, take-append-le, drop-append-le, length-take-le}
 use borrow.Author.Tests.{ne-eqb, leb-true, leb-false, le-ltb}
+use Rattle.sets.specs.Words.{bytes}
 use Rattle.sets.proofs.Laws.{both}
 use Rattle.rows.specs.Number.{cell}
 use Rattle.rules.specs.Lists.{every, first}
 use Rattle.rules.specs.Tests.{firstRule, when, firstSome, isNone}
 use Rattle.rules.specs.Sound.{countLimits, inLimit, rules, maxUsers, maxResources, maxTokens, maxGroups}
-use Rattle.rules.specs.Bytes.{headIn, counts, total, start, read, limitsOf, countPlaces, badCount, ruleFault, fault}
+use Rattle.rules.specs.Bytes.{versionIn, leaversIn, headIn, counts, total, start, read, limitsOf, countPlaces, badCount, ruleFault, fault, known}
 use Rattle.rules.specs.declared.Head.{Head}
 use Rattle.rules.specs.declared.Letter.{Letter}
 use Rattle.rules.specs.declared.Spot.{Spot}
 use Rattle.rules.specs.declared.Fault.{Fault}
 use Rattle.rules.specs.declared.Fault.the-variants.{Mark, Version, Mode, Count, Length}
 use Rattle.theorems.proofs.FaultLaws.{count-none}
+use Rattle.book.proofs.Laws.{fore-within}
 use Rattle.inspect.specs.Input.{longest, FrontOf}
-use Rattle.inspect.specs.Text.{grown, grownBy}
+use Rattle.inspect.specs.Text.{grownBy}
 
 -- ---- the header is in the front
 
@@ -31,10 +33,15 @@ pub cell-front : (w at : ℕ) (p q : List ℕ) → at + w ≤ length p → cell 
 unfolding cell
 cell-front w at p q h = rw (drop-append-le at p q (omega arith), take-append-le w (drop at p) q (simp length-drop (omega arith)))
 
-pub head-front : (p q : List ℕ) → 17 ≤ length p → headIn (p ++ q) ≡ headIn p
-unfolding headIn
+pub version-front : (p q : List ℕ) → 17 ≤ length p → versionIn (p ++ q) ≡ versionIn p
+unfolding versionIn
+version-front p q h = cell-front 2 3 p q (omega arith)
+
+pub head-front : (p q : List ℕ) → 17 + bytes ≤ length p → headIn (p ++ q) ≡ headIn p
+unfolding headIn leaversIn
 head-front p q h =
     rw (
+      version-front p q (omega arith),
       cell-front 1 5 p q (omega arith),
       cell-front 1 6 p q (omega arith),
       cell-front 2 7 p q (omega arith),
@@ -42,13 +49,14 @@ head-front p q h =
       cell-front 2 11 p q (omega arith),
       cell-front 2 13 p q (omega arith),
       cell-front 2 15 p q (omega arith),
+      cell-front bytes 17 p q (omega arith),
     )
 
 -- ---- RULES 9.4: no book is longer
 
-pub no-longer : (h : Head) → badCount h ≡ none → start h 5 ≤ longest
+pub no-longer : (v : ℕ) (h : Head) → badCount h ≡ none → start v h 5 ≤ longest
 unfolding start total counts limitsOf countLimits inLimit every isNone
-no-longer h e =
+no-longer v h e =
     let all : every inLimit (limitsOf h) ≡ true = sym (count-none h) ∙ ap isNone e in
     let u = h .users .0 in
     let r = h .resources .0 in
@@ -64,6 +72,7 @@ no-longer h e =
     let (x6, h6) = both (leb ot maxTokens) _ h5 in
     omega (
       arith,
+      fore-within v,
       leb-true u maxUsers x1,
       leb-true r maxResources x2,
       leb-true iv (u + r) x3,
@@ -93,23 +102,23 @@ count-same h n = let i = first (λ c. not (inLimit c)) (limitsOf h) in go (ltb i
     go false place = refl
 
 -- of an input longer than any book the rules are never judged
-longer : (h : Head) (m n : ℕ) (x y : Option Fault) → longest < m → longest < n
-    → firstSome (badCount h ∷ when (not (eqb n (start h 5))) (Length n) ∷ y ∷ []) ≡ grownBy n (firstSome (badCount h ∷ when (not (eqb m (start h 5))) (Length m) ∷ x ∷ []))
+longer : (v : ℕ) (h : Head) (m n : ℕ) (x y : Option Fault) → longest < m → longest < n
+    → firstSome (badCount h ∷ when (not (eqb n (start v h 5))) (Length n) ∷ y ∷ []) ≡ grownBy n (firstSome (badCount h ∷ when (not (eqb m (start v h 5))) (Length m) ∷ x ∷ []))
 unfolding firstSome when
-longer h m n x y lm ln = go (badCount h) refl (count-same h n)
+longer v h m n x y lm ln = go (badCount h) refl (count-same h n)
   where
     go : (o : Option Fault) → badCount h ≡ o → o ≡ grownBy n o
-        → firstSome (o ∷ when (not (eqb n (start h 5))) (Length n) ∷ y ∷ []) ≡ grownBy n (firstSome (o ∷ when (not (eqb m (start h 5))) (Length m) ∷ x ∷ []))
+        → firstSome (o ∷ when (not (eqb n (start v h 5))) (Length n) ∷ y ∷ []) ≡ grownBy n (firstSome (o ∷ when (not (eqb m (start v h 5))) (Length m) ∷ x ∷ []))
     go none e g =
-        let short = no-longer h e in
-        rw (ne-eqb n (start h 5) (λ k. omega arith), ne-eqb m (start h 5) (λ k. omega arith))
+        let short = no-longer v h e in
+        rw (ne-eqb n (start v h 5) (λ k. omega arith), ne-eqb m (start v h 5) (λ k. omega arith))
     go (some f) e g = g
 
 -- of any other there is nothing behind the front
-rule-same : (h : Head) (n : ℕ) (r : Option (Letter × Spot)) → ruleFault h r ≡ grownBy n (ruleFault h r)
+rule-same : (v : ℕ) (h : Head) (n : ℕ) (r : Option (Letter × Spot)) → ruleFault v h r ≡ grownBy n (ruleFault v h r)
 unfolding ruleFault
-rule-same h n none = refl
-rule-same h n (some r) = refl
+rule-same v h n none = refl
+rule-same v h n (some r) = refl
 
 same : (h : Head) (n : ℕ) (b : Bool) (x : Option Fault) → x ≡ grownBy n x
     → firstSome (badCount h ∷ when b (Length n) ∷ x ∷ []) ≡ grownBy n (firstSome (badCount h ∷ when b (Length n) ∷ x ∷ []))
@@ -131,18 +140,19 @@ fault-longer p q h =
       le-ltb (length (p ++ q)) 17 (omega arith),
       le-ltb (length p) 17 (omega arith),
       cell-front 3 0 p q (omega arith),
-      cell-front 2 3 p q (omega arith),
+      version-front p q (omega arith),
       cell-front 1 5 p q (omega arith),
       head-front p q (omega arith),
     )
-    (steps false (not (eqb (cell 3 0 p) 0x424B54)) (not (eqb (cell 2 3 p) 1)) (ltb 1 (cell 1 5 p)) (length p) (length (p ++ q)) _ _
-    (longer (headIn p) (length p) (length (p ++ q)) _ _ h long))
+    (steps false (not (eqb (cell 3 0 p) 0x424B54)) (not (known (versionIn p))) (ltb 1 (cell 1 5 p)) (length p) (length (p ++ q)) _ _
+    (longer (versionIn p) (headIn p) (length p) (length (p ++ q)) _ _ h long))
 
 pub fault-same : (p : List ℕ) → fault p ≡ grownBy (length p) (fault p)
 unfolding fault
 fault-same p =
-    steps (ltb (length p) 17) (not (eqb (cell 3 0 p) 0x424B54)) (not (eqb (cell 2 3 p) 1)) (ltb 1 (cell 1 5 p)) (length p) (length p) _ _
-    (same (headIn p) (length p) (not (eqb (length p) (start (headIn p) 5))) _ (rule-same (headIn p) (length p) (firstRule (rules (read p)))))
+    let v = versionIn p in
+    steps (ltb (length p) 17) (not (eqb (cell 3 0 p) 0x424B54)) (not (known v)) (ltb 1 (cell 1 5 p)) (length p) (length p) _ _
+    (same (headIn p) (length p) (not (eqb (length p) (start v (headIn p) 5))) _ (rule-same v (headIn p) (length p) (firstRule (rules (read p)))))
 
 -- ---- the whole input, by its front
 
@@ -167,8 +177,11 @@ module _ {front : List ℕ} {total : ℕ} {came : List ℕ} (f : FrontOf front t
       two : longest < length front → fault came ≡ grownBy total (fault front)
       two h = rw (f .whole, parts) (fault-longer front (drop (longest + 1) came) h)
 
-  pub head-whole : 17 ≤ length front → headIn came ≡ headIn front
-  head-whole h = ap headIn parts ∙ head-front front (drop (longest + 1) came) h
+  pub version-whole : versionIn came ≡ versionIn front
+  version-whole = ⊎-elim (ap versionIn) (λ (h : longest < length front). ap versionIn parts ∙ version-front front (drop (longest + 1) came) (omega arith)) apart
+
+  pub head-whole : headIn came ≡ headIn front
+  head-whole = ⊎-elim (ap headIn) (λ (h : longest < length front). ap headIn parts ∙ head-front front (drop (longest + 1) came) (omega arith)) apart
 
   -- fewer than 17 bytes are all there are
   pub short-whole : length front < 17 → (came ≡ front) × (total ≡ length front)

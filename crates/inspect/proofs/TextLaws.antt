@@ -1,5 +1,5 @@
 -- Texts one behind the other in the output buffer. Assumes nothing.
-use Prim.Native.Nat.{ℕ, suc, _+_, _≤_, _<_}
+use Prim.Native.Nat.{ℕ, _+_, _≤_, _<_}
 use mathlib.Core.Path.{_≡_, refl, sym, ap, _∙_}
 use mathlib.Core.List.{List, [], _∷_, _++_}
 use native.Mathlib.Numerals.{add-one}
@@ -75,7 +75,7 @@ limit-none h place a b c d e f =
     sym (ap (λ (i : ℕ). getD (limitsOf h) i (0, 0) .1) past)
 
 -- where the bytes have a header
-pub sentence-length : (h : Head) (f : Fault) (n : ℕ) → f ≡ Length n → Headed f → sentence h f ≡ lengthText h
-sentence-length h f n e p =
+pub sentence-length : (v : ℕ) (h : Head) (f : Fault) (n : ℕ) → f ≡ Length n → Headed f → sentence v h f ≡ lengthText v h
+sentence-length v h f n e p =
     let long : 17 ≤ n = rw e at p in
     rw (e, le-ltb n 17 long)

@@ -6,6 +6,7 @@ use mathlib.Core.List.{List, [], _++_}
 use mathlib.Core.Path.{_≡_}
 use lib.ListN.{length, take}
 use Rattle.sets.specs.Words.{bytes}
+use Rattle.rules.specs.Bytes.{headerBytes}
 use Rattle.rules.specs.Sound.{maxUsers, maxResources, maxTokens, maxGroups}
 use Rattle.inspect.specs.declared.input.Came.{Came}
 use Rattle.inspect.specs.declared.input.Got.{Got}
@@ -13,7 +14,7 @@ use Rattle.inspect.specs.declared.input.Got.the-variants.{Bytes, End, Fa
 
 -- RULES 9.4: "no book is longer"
 abbrev pub longest : ℕ
-longest = 17 + (maxUsers + maxResources) * bytes + maxTokens * 5 + (maxUsers + maxGroups) * bytes + maxTokens * 4 + maxResources * (bytes + 4)
+longest = headerBytes + bytes + (maxUsers + maxResources) * bytes + maxTokens * 5 + (maxUsers + maxGroups) * bytes + maxTokens * 4 + maxResources * (bytes + 4)
 
 -- unless something failed
 abbrev pub Unless : Bool → Type 0 → Type 0

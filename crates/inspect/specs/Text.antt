@@ -7,11 +7,13 @@ use mathlib.Core.List.{List, _++_}
 use mathlib.Core.Option.{Option, some, none}
 use lib.Dec.{eqb, ltb}
 use lib.ListN.{length, take, getD}
+use Rattle.sets.specs.Sets.{size}
+use Rattle.sets.specs.Words.{setIn}
 use Rattle.rules.specs.Lists.{first}
-use Rattle.rules.specs.Bytes.{faultNumber, faultPlace, limitsOf, countPlaces, start, headIn, fault}
+use Rattle.rules.specs.Bytes.{faultNumber, faultPlace, limitsOf, countPlaces, start, versionIn, headIn, fault, headerBytes}
 use Rattle.rules.specs.declared.Head.{Head}
 use Rattle.rules.specs.declared.Spot.{Spot}
-use Rattle.rules.specs.declared.Spot.the-variants.{Row, Missing}
+use Rattle.rules.specs.declared.Spot.the-variants.{Row, Leavers, Missing}
 use Rattle.rules.specs.declared.Letter.{Letter}
 use Rattle.rules.specs.declared.Letter.the-variants.{S1, S2, S3, S4, S5, S6, S7, S8}
 use Rattle.rules.specs.declared.Fault.{Fault}
@@ -23,7 +25,7 @@ use Rattle.inspect.specs.declared.input.Came.{Came}
 use Rattle.inspect.specs.declared.Reply.{Reply}
 use Rattle.inspect.specs.declared.Reply.the-variants.{To, Failed}
 
--- ---- a sound book: "eight lines, `sound` and the head"
+-- ---- a sound book: "nine lines, `sound` and the head"
 
 unfoldable pub modeText : ℕ → List ℕ
 modeText m = cond (eqb m 0) (bytes "mode full\n") (bytes "mode delta\n")
@@ -42,8 +44,12 @@ layersText h =
     ++ ((bytes "outer vertices " ++ numeral (h .«outer_vertices» .0) 10)
     ++ (bytes "outer tokens " ++ numeral (h .«outer_tokens» .0) 10)))
 
+-- "`leavers N`, which says how many have left"
+unfoldable pub leaversText : Head → List ℕ
+leaversText h = bytes "leavers " ++ numeral (size (setIn (h .leavers))) 10
+
 unfoldable pub headText : Head → List ℕ
-headText h = peopleText h ++ layersText h
+headText h = peopleText h ++ (layersText h ++ leaversText h)
 
 -- ---- any other bytes: "the first is `no K PLACE`, the number and the place of 9.10"
 
@@ -66,12 +72,12 @@ countWords place =
 unfoldable pub countText : Head → ℕ → List ℕ
 countText h place = countWords place ++ numeral (limitAt h place) 10
 
--- "for 24 the length that header and rows have"
+-- "for 24 the length that it should have"
 unfoldable pub headerText : List ℕ
 headerText = bytes "wrong length: a header has 17 bytes\n"
 
-unfoldable pub lengthText : Head → List ℕ
-lengthText h = (bytes "wrong length: by its counts the book has " ++ numeral (start h 5) 32) ++ bytes "bytes\n"
+unfoldable pub lengthText : ℕ → Head → List ℕ
+lengthText v h = (bytes "wrong length: by its version and its counts the book has " ++ numeral (start v h 5) 32) ++ bytes "bytes\n"
 
 -- "for 31 to 38 the section, the number of the row in it, and the rule"
 unfoldable pub sectionWords : ℕ → List ℕ
@@ -87,10 +93,11 @@ rowText k i = sectionWords k ++ numeral i 58
 
 abbrev pub spotText : Spot → List ℕ
 spotText (Row k i) = rowText k i
+spotText Leavers = bytes "the set of leavers:"
 spotText Missing = bytes "a joined user has no own vertex:"
 
 abbrev pub ruleText : Letter → List ℕ
-ruleText S1 = bytes " S1 is broken, numbers: kinds are 0 or 1, vertex numbers belong to vertices of that layer, sets and lists name only users who have joined\n"
+ruleText S1 = bytes " S1 is broken, numbers: kinds are 0 or 1, vertex numbers belong to vertices of that layer, sets and lists name only users who have joined, and no list names one who has left\n"
 ruleText S2 = bytes " S2 is broken, own vertices: each joined user has one in each layer, no kind 0 or outer token leads to one, and no inner set is empty\n"
 ruleText S3 = bytes " S3 is broken, sets differ: two vertices of one layer never have the same set\n"
 ruleText S4 = bytes " S4 is broken, tokens rise: a kind 0 or outer token starts at a set with somebody in it, a proper part of the set it leads to\n"
@@ -100,24 +107,24 @@ ruleText S7 = bytes " S7 is broken, lists are held: everybody on a folder's list
 ruleText S8 = bytes " S8 is broken, locks fit: in mode full each folder has an outer vertex with its list as set; in mode delta it has none exactly where the holders are the list, else such a one\n"
 
 -- "the second says in English what is wrong there"
-abbrev pub sentence : Head → Fault → List ℕ
-sentence h Mark = bytes "the mark is not 54 4B 42 (\"TKB\"): this is no book, or its first bytes are spoilt\n"
-sentence h Version = bytes "the version is not 1, the only one that can be read\n"
-sentence h Mode = bytes "the mode is neither 0 (full) nor 1 (delta)\n"
-sentence h (Count place) = countText h place
-sentence h (Length n) = cond (ltb n 17) headerText (lengthText h)
-sentence h (Rule l s at) = spotText s ++ ruleText l
+abbrev pub sentence : ℕ → Head → Fault → List ℕ
+sentence v h Mark = bytes "the mark is not 54 4B 42 (\"TKB\"): this is no book, or its first bytes are spoilt\n"
+sentence v h Version = bytes "the version is neither 1 nor 2\n"
+sentence v h Mode = bytes "the mode is neither 0 (full) nor 1 (delta)\n"
+sentence v h (Count place) = countText h place
+sentence v h (Length n) = cond (ltb n headerBytes) headerText (lengthText v h)
+sentence v h (Rule l s at) = spotText s ++ ruleText l
 
-unfoldable pub brokenText : Head → Fault → List ℕ
-brokenText h f = refusedText f ++ sentence h f
+unfoldable pub brokenText : ℕ → Head → Fault → List ℕ
+brokenText v h f = refusedText f ++ sentence v h f
 
-unfoldable pub answerText : Head → Option Fault → List ℕ
-answerText h none = headText h
-answerText h (some f) = brokenText h f
+unfoldable pub answerText : ℕ → Head → Option Fault → List ℕ
+answerText v h none = headText h
+answerText v h (some f) = brokenText v h f
 
 -- of the bytes that came in
 unfoldable pub checkText : List ℕ → List ℕ
-checkText bs = answerText (headIn bs) (fault bs)
+checkText bs = answerText (versionIn bs) (headIn bs) (fault bs)
 
 -- ---- parts of the way there
 
@@ -127,7 +134,7 @@ Headed Mark = Unit {0}
 Headed Version = Unit {0}
 Headed Mode = Unit {0}
 Headed (Count place) = Unit {0}
-Headed (Length n) = 17 ≤ n
+Headed (Length n) = headerBytes ≤ n
 Headed (Rule l s at) = Unit {0}
 
 unfoldable pub shortText : ℕ → List ℕ

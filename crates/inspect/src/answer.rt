@@ -2,13 +2,17 @@
 use crate::text::put_number;
 use crate::text::put_words;
 use crate::words::put_sentence;
+use book::HEADER;
 use book::Wrong;
 use book::first_fault;
 use book::head_in;
+use book::header_in;
+use book::version_in;
 use rules::Fault;
 use rules::Head;
 use rules::fault_number;
 use rules::fault_place;
+use sets::Users;
 ghost use mathlib.Core.Path.{_≡_};
 ghost use Prim.Native.Nat.{_+_, _≤_};
 ghost use lib.ListN.{length};
@@ -52,6 +56,7 @@ fn put_people(h: Head, out: &mut [u8]) -> usize
 fn put_layers(h: Head, out: &mut [u8], at: usize) -> usize
     requires { ⌜ at + 200 ≤ length (now out) ⌝ }
     ensures { λ r. ⌜ Puts (layersText h) at (now (out .entry)) r (now (out .exit)) ⌝ }
+    ensures { λ r. ⌜ r ≤ at + 200 ⌝ }
 {
     let a = put_number(
         b"inner vertices ",
@@ -65,13 +70,14 @@ fn put_layers(h: Head, out: &mut [u8], at: usize) -> usize
     put_number(b"outer tokens ", h.outer_tokens.0 as u64, b'\n', out, c)
 }
 
-// `sound` and the head, in eight lines.
+// `sound` and the head, in nine lines.
 fn put_head(h: Head, out: &mut [u8]) -> usize
     requires { ⌜ 512 ≤ length (now out) ⌝ }
     ensures { λ r. ⌜ Puts (headText h) 0 (now (out .entry)) r (now (out .exit)) ⌝ }
 {
-    let end = put_people(h, out);
-    put_layers(h, out, end)
+    let a = put_people(h, out);
+    let b = put_layers(h, out, a);
+    put_number(b"leavers ", h.leavers.size() as u64, b'\n', out, b)
 }
 
 // `no K PLACE`.
@@ -85,13 +91,13 @@ fn put_refused(f: Fault, out: &mut [u8]) -> usize
 }
 
 // Of bytes that have a header.
-fn put_broken(h: Head, f: Fault, out: &mut [u8]) -> usize
+fn put_broken(version: u16, h: Head, f: Fault, out: &mut [u8]) -> usize
     requires { ⌜ 512 ≤ length (now out) ⌝ }
     requires { ⌜ Headed f ⌝ }
-    ensures { λ r. ⌜ Puts (brokenText h f) 0 (now (out .entry)) r (now (out .exit)) ⌝ }
+    ensures { λ r. ⌜ Puts (brokenText version h f) 0 (now (out .entry)) r (now (out .exit)) ⌝ }
 {
     let end = put_refused(f, out);
-    put_sentence(h, f, out, end)
+    put_sentence(version, h, f, out, end)
 }
 
 // Of fewer bytes than a header has.
@@ -103,19 +109,22 @@ fn put_short(n: usize, out: &mut [u8]) -> usize
     put_words(b"wrong length: a header has 17 bytes\n", out, end)
 }
 
-// The answer to an input of which only the front may be at hand: as many bytes as the longest book has, and one more.
+// The answer to an input of which only the front may be at hand: as many bytes as the longest book has, and one more. What is wrong with bytes is told by their
+// header alone: there may be no set of leavers behind it.
 pub fn put_check(front: &[u8], total: usize, out: &mut [u8]) -> usize
     requires { ⌜ length (now front) ≤ total ⌝ }
     requires { ⌜ 512 ≤ length (now out) ⌝ }
     ensures { λ r. ⌜ Answers (now (front .entry)) total (now (out .entry)) r (now (out .exit)) ⌝ }
 {
-    if front.len() < 17 {
+    if front.len() < HEADER {
         return put_short(total, out);
     }
-    let h = head_in(front);
     let w = first_fault(front);
     match w {
-        Wrong::Nothing => put_head(h, out),
-        Wrong::First(f) => put_broken(h, grow(f, total), out),
+        Wrong::Nothing => put_head(head_in(front), out),
+        Wrong::First(f) => {
+            let h = header_in(front, Users::empty());
+            put_broken(version_in(front), h, grow(f, total), out)
+        }
     }
 }

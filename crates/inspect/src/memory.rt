@@ -1,16 +1,19 @@
 // All the memory that the program has, on its stack. The contracts give the lengths alone.
+use book::HEADER;
 use rules::InnerTokens;
 use rules::InnerVertices;
 use rules::OuterTokens;
 use rules::OuterVertices;
 use rules::Resources;
+use sets::Users;
 ghost use mathlib.Core.Path.{_≡_};
 ghost use Prim.Native.Nat.{_+_};
 ghost use lib.ListN.{length};
 ghost use Rattle.inspect.specs.Input.{longest};
 
 // The bytes of the longest book: RULES 9.4.
-pub const LONGEST: usize = 17
+pub const LONGEST: usize = HEADER
+    + Users::WIDTH
     + InnerVertices::LIMIT as usize * InnerVertices::WIDTH
     + InnerTokens::LIMIT as usize * InnerTokens::WIDTH
     + OuterVertices::LIMIT as usize * OuterVertices::WIDTH

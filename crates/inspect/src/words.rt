@@ -85,14 +85,14 @@ fn put_count(h: Head, place: usize, out: &mut [u8], at: usize) -> usize
     }
 }
 
-// The length that header and rows have.
-fn put_length(h: Head, out: &mut [u8], at: usize) -> usize
+// The length that the book should have.
+fn put_length(version: u16, h: Head, out: &mut [u8], at: usize) -> usize
     requires { ⌜ at + 100 ≤ length (now out) ⌝ }
-    ensures { λ r. ⌜ Puts (lengthText h) at (now (out .entry)) r (now (out .exit)) ⌝ }
+    ensures { λ r. ⌜ Puts (lengthText version h) at (now (out .entry)) r (now (out .exit)) ⌝ }
 {
-    let n = start_of(h, 5) as u64;
+    let n = start_of(version, h, 5) as u64;
     let end = put_number(
-        b"wrong length: by its counts the book has ",
+        b"wrong length: by its version and its counts the book has ",
         n,
         b' ',
         out,
@@ -125,6 +125,7 @@ fn put_spot(s: Spot, out: &mut [u8], at: usize) -> usize
 {
     match s {
         Spot::Row(k, i) => put_row(k, i, out, at),
+        Spot::Leavers => put_words(b"the set of leavers:", out, at),
         Spot::Missing => put_words(b"a joined user has no own vertex:", out, at),
     }
 }
@@ -136,7 +137,7 @@ fn put_rule(l: Letter, out: &mut [u8], at: usize) -> usize
 {
     match l {
         Letter::S1 => put_words(
-            b" S1 is broken, numbers: kinds are 0 or 1, vertex numbers belong to vertices of that layer, sets and lists name only users who have joined\n",
+            b" S1 is broken, numbers: kinds are 0 or 1, vertex numbers belong to vertices of that layer, sets and lists name only users who have joined, and no list names one who has left\n",
             out,
             at,
         ),
@@ -179,10 +180,10 @@ fn put_rule(l: Letter, out: &mut [u8], at: usize) -> usize
 }
 
 // Of bytes that have a header.
-pub fn put_sentence(h: Head, f: Fault, out: &mut [u8], at: usize) -> usize
+pub fn put_sentence(version: u16, h: Head, f: Fault, out: &mut [u8], at: usize) -> usize
     requires { ⌜ at + 240 ≤ length (now out) ⌝ }
     requires { ⌜ Headed f ⌝ }
-    ensures { λ r. ⌜ Puts (sentence h f) at (now (out .entry)) r (now (out .exit)) ⌝ }
+    ensures { λ r. ⌜ Puts (sentence version h f) at (now (out .entry)) r (now (out .exit)) ⌝ }
 {
     match f {
         Fault::Mark => put_words(
@@ -190,14 +191,10 @@ pub fn put_sentence(h: Head, f: Fault, out: &mut [u8], at: usize) -> usize
             out,
             at,
         ),
-        Fault::Version => put_words(
-            b"the version is not 1, the only one that can be read\n",
-            out,
-            at,
-        ),
+        Fault::Version => put_words(b"the version is neither 1 nor 2\n", out, at),
         Fault::Mode => put_words(b"the mode is neither 0 (full) nor 1 (delta)\n", out, at),
         Fault::Count(place) => put_count(h, place, out, at),
-        Fault::Length(_) => put_length(h, out, at),
+        Fault::Length(_) => put_length(version, h, out, at),
         Fault::Rule(l, s, _) => {
             let end = put_spot(s, out, at);
             put_rule(l, out, end)

@@ -1,7 +1,7 @@
 -- What the searches require of the head and the tables, from S1 and the room: the layers are laid, and the vertices that rows name exist.
 -- Assumes nothing.
 use Prim.Native.Nat.{ℕ, _+_, _*_, _^_, _≤_, _<_}
-use mathlib.Core.Path.{_≡_, refl, sym, ap, _∙_}
+use mathlib.Core.Path.{_≡_, sym, ap, _∙_}
 use mathlib.Core.Bool.{Bool, true, false, _&&_, _||_, not, Bool·not-not}
 use mathlib.Core.Logic.{_⊎_, inl, inr}
 use mathlib.Core.List.{List, [], List·Memᴰ}
@@ -9,6 +9,7 @@ use native.Mathlib.Omega.{arith}
 use lib.Dec.{eqb, ltb, leb, lit≤}
 use lib.ListN.{length, getD}
 use borrow.Author.Tests.{eqb-true, ltb-true, not-true, not-false}
+use Rattle.sets.specs.Sets.{apart}
 use Rattle.sets.specs.Words.{bytes}
 use Rattle.sets.proofs.Laws.{both, either}
 use Rattle.rules.specs.Lists.{every}
@@ -114,12 +115,13 @@ layer-laid l ts vs h few e =
     there : (k : ℕ) → k < l .tokens → List·Memᴰ (getD (tokensIn (l .width) (l .tokens) ts) k (token 0 0 0)) (tokensIn (l .width) (l .tokens) ts)
     there k lt = getD-mem (tokensIn (l .width) (l .tokens) ts) k (token 0 0 0) (rw length-tokens lt)
 
-resource-placed : (u n m k : ℕ) (rs : List ℕ) → every (placedAt u n m) (resourcesIn k rs) ≡ true
+resource-placed : (u g n m k : ℕ) (rs : List ℕ) → every (placedAt u g n m) (resourcesIn k rs) ≡ true
     → (x : Resource) → List·Memᴰ x (resourcesIn k rs) → (x .inner < n) × OuterIs m x
 unfolding hasOuter
-resource-placed u n m k rs e x i =
-    let row = every-mem (placedAt u n m) (resourcesIn k rs) e i in
-    let (front, outer) = both (ltb (x .list) (2 ^ u) && ltb (x .inner) n) (not (hasOuter x) || ltb (x .outer) m) row in
+resource-placed u g n m k rs e x i =
+    let row = every-mem (placedAt u g n m) (resourcesIn k rs) e i in
+    let there = both (ltb (x .list) (2 ^ u) && ltb (x .inner) n && (not (hasOuter x) || ltb (x .outer) m)) (apart (x .list) g) row .0 in
+    let (front, outer) = both (ltb (x .list) (2 ^ u) && ltb (x .inner) n) (not (hasOuter x) || ltb (x .outer) m) there in
     (ltb-true (x .inner) n (both (ltb (x .list) (2 ^ u)) (ltb (x .inner) n) front .1), go (either (not (hasOuter x)) (ltb (x .outer) m) outer))
   where
     go : (not (hasOuter x) ≡ true) ⊎ (ltb (x .outer) m ≡ true) → OuterIs m x
@@ -141,7 +143,7 @@ module _ (h : Head) (t : Tables) (s1 : S1 (bookIn h t) ≡ true) where
     inner-laid r = let w = s1-within in layer-laid l (t .innerTokens) (t .innerVertices) (inner-held h t r e) (rw e (omega arith)) inner-ends
 
     pub inner-vertices : Inners (l .vertices) (resourcesIn (h .resources .0) (t .resources))
-    inner-vertices = rw e (λ x m. resource-placed (h .users .0) (h .«inner_vertices» .0) (h .«outer_vertices» .0) (h .resources .0) (t .resources) (s1-resources h t s1) x m .0)
+    inner-vertices = rw e (λ x m. resource-placed (h .users .0) (h .leavers .0) (h .«inner_vertices» .0) (h .«outer_vertices» .0) (h .resources .0) (t .resources) (s1-resources h t s1) x m .0)
 
   module _ {l : Shape} (e : l ≡ outerShape h) where
     pub outer-ends : Ends (l .vertices) (tokensIn (l .width) (l .tokens) (t .outerTokens))
@@ -155,4 +157,4 @@ module _ (h : Head) (t : Tables) (s1 : S1 (bookIn h t) ≡ true) where
 
   pub outer-vertices : Outers (h .«outer_vertices» .0) (resourcesIn (h .resources .0) (t .resources))
   outer-vertices x m =
-      resource-placed (h .users .0) (h .«inner_vertices» .0) (h .«outer_vertices» .0) (h .resources .0) (t .resources) (s1-resources h t s1) x m .1
+      resource-placed (h .users .0) (h .leavers .0) (h .«inner_vertices» .0) (h .«outer_vertices» .0) (h .resources .0) (t .resources) (s1-resources h t s1) x m .1

@@ -1,6 +1,6 @@
 -- S1 to S8 of the book in five tables: where each is broken first, by the searches that the check makes.
 -- Assumes nothing.
-use Prim.Native.Nat.{ℕ, _<_}
+use Prim.Native.Nat.{ℕ, _^_, _<_}
 use mathlib.Core.Path.{_≡_, refl, sym, ap, ap₂, _∙_, subst}
 use mathlib.Core.Bool.{Bool, true, false, _&&_, _||_, not, true≢false, and-true, Bool·not-not}
 use mathlib.Core.Logic.{_⊎_, inl, inr}
@@ -15,17 +15,17 @@ use Rattle.sets.specs.Sets.{within, inside, size}
 use Rattle.sets.proofs.Laws.{both, inside-within}
 use Rattle.rules.specs.Lists as lists
 use Rattle.rules.specs.Lists.{every, first, numbered, upTo}
-use Rattle.rules.specs.Tests.{rows, things, unlikeEarlier, broken, firstRule}
+use Rattle.rules.specs.Tests.{thing, rows, things, unlikeEarlier, broken, firstRule}
 use Rattle.rules.specs.Layer.{Layer, token, setOf}
 use Rattle.rules.specs.Book.{Book}
 use Rattle.rules.specs.Holders.{holders}
-use Rattle.rules.specs.Bytes.{Tables, bookIn, headOf, limitsOf, setsIn, tokensIn, resourcesIn}
+use Rattle.rules.specs.Bytes.{Tables, bookIn, setsIn, tokensIn, resourcesIn}
 use Rattle.rules.specs.Sound.{joinedSet, placedRow, plainRow, hasOwn, notEmpty, entersGroup, unequal, risingRow, unitedVertex, lateralRow, otherRow, newRow, counts, placed, held, lockedFor, locked, rows1, rows2, rows3, rows4, rows5, rows6, rows7, rows8, rules, S1, S4}
 use Rattle.rules.specs.declared.Head.{Head}
 use Rattle.rules.specs.declared.Token.{Token}
 use Rattle.theorems.specs.Layers.{named, rising}
 use Rattle.theorems.proofs.ListLaws.{every-mem, getD-mem, mem-getD, length-numbered, length-upTo}
-use Rattle.theorems.proofs.TestedLaws.{first-same, s1-is, s4-is}
+use Rattle.theorems.proofs.TestedLaws.{s1-is, s4-is}
 use Rattle.theorems.proofs.FaultLaws.{counts-head}
 use Rattle.theorems.proofs.RuleLaws.{kind-cases}
 use Rattle.theorems.proofs.RowLaws.{outer-plain}
@@ -42,6 +42,7 @@ use Rattle.sound.specs.declared.layers.Rule.the-variants as rule
 use Rattle.sound.specs.declared.every.Broken.{Broken}
 use Rattle.sound.specs.declared.every.Broken.the-variants.{Nowhere}
 use Rattle.rules.specs.declared.Letter.the-variants as letter
+use Rattle.rules.specs.declared.Spot.the-variants.{Leavers}
 use Rattle.sound.proofs.Spots.{row-told, thing-told, Rest, none-found, first-agree, first-either, first-numbered, first-at-number, some-not, nowhere-kept, Left}
 
 -- ---- what the searches find
@@ -244,7 +245,7 @@ module _ (h : Head) (t : Tables) where
 
   -- what the searches among the resources find
   abbrev pub misplacedResources : ℕ → ℕ → Found
-  misplacedResources n m = foundIn (h .resources .0) (first (λ x. not (placedAt (h .users .0) n m x)) (resourcesIn (h .resources .0) (t .resources)))
+  misplacedResources n m = foundIn (h .resources .0) (first (λ x. not (placedAt (h .users .0) (h .leavers .0) n m x)) (resourcesIn (h .resources .0) (t .resources)))
 
   abbrev pub unheldResources : Shape → Found
   unheldResources l =
@@ -267,9 +268,10 @@ module _ (h : Head) (t : Tables) where
     Outer = layerOf o (t .outerTokens) (t .outerVertices)
 
     pub s1-rest : Rest (broken (rows1 (bookIn h t)))
-        (rows 0 (joinedSet (h .users .0)) (Inner .sets) ∷ rows 1 (placedRow Inner) (Inner .tokens) ∷ rows 2 (joinedSet (h .users .0)) (Outer .sets)
+        (thing Leavers (ltb (h .leavers .0) (2 ^ h .users .0))
+        ∷ rows 0 (joinedSet (h .users .0)) (Inner .sets) ∷ rows 1 (placedRow Inner) (Inner .tokens) ∷ rows 2 (joinedSet (h .users .0)) (Outer .sets)
         ∷ rows 3 (plainRow Outer) (Outer .tokens) ∷ rows 4 (placed B) (resourcesIn (h .resources .0) (t .resources)) ∷ [])
-    unfolding rows1 bookIn layerOf
+    unfolding rows1 joinedSet bookIn layerOf
     s1-rest = rw (ie, oe) (record { is = refl })
 
     pub s2-rest : Rest (broken (rows2 (bookIn h t)))
@@ -302,7 +304,7 @@ module _ (h : Head) (t : Tables) where
         → x ≡ brokenIs (broken (rows 4 (placed B) (resourcesIn (h .resources .0) (t .resources)) ∷ []))
     unfolding bookIn placed
     placed-told a e =
-        row-told (placed B) (λ x. not (placedAt (h .users .0) (h .«inner_vertices» .0) (h .«outer_vertices» .0) x)) (resourcesIn (h .resources .0) (t .resources))
+        row-told (placed B) (λ x. not (placedAt (h .users .0) (h .leavers .0) (h .«inner_vertices» .0) (h .«outer_vertices» .0) x)) (resourcesIn (h .resources .0) (t .resources))
         (length-resources (h .resources .0) (t .resources))
         (λ x m. rw (length-sets (h .«inner_vertices» .0) (t .innerVertices), length-sets (h .«outer_vertices» .0) (t .outerVertices))) 4 a (rw (ie, oe) at e)
 
@@ -327,11 +329,11 @@ module _ (h : Head) (t : Tables) where
     parts1 : Parts1
     unfolding named
     parts1 =
-        let (x, d) = both (counts B && (every (joinedSet (B .users)) (B .inner .sets) && every (placedRow (B .inner)) (B .inner .tokens)) && (every (joinedSet (B .users)) (B .outer .sets) && every (placedRow (B .outer)) (B .outer .tokens)) && every (λ t. eqb (t .kind) 0) (B .outer .tokens)) (every (placed B) (B .resources)) (sym (s1-is B) ∙ s1) in
-        let (y, k) = both (counts B && (every (joinedSet (B .users)) (B .inner .sets) && every (placedRow (B .inner)) (B .inner .tokens)) && (every (joinedSet (B .users)) (B .outer .sets) && every (placedRow (B .outer)) (B .outer .tokens))) (every (λ t. eqb (t .kind) 0) (B .outer .tokens)) x in
-        let (z, c) = both (counts B && (every (joinedSet (B .users)) (B .inner .sets) && every (placedRow (B .inner)) (B .inner .tokens))) (every (joinedSet (B .users)) (B .outer .sets) && every (placedRow (B .outer)) (B .outer .tokens)) y in
-        let (n, b) = both (counts B) (every (joinedSet (B .users)) (B .inner .sets) && every (placedRow (B .inner)) (B .inner .tokens)) z in
-        (n, both (every (joinedSet (B .users)) (B .inner .sets)) (every (placedRow (B .inner)) (B .inner .tokens)) b .1, both (every (joinedSet (B .users)) (B .outer .sets)) (every (placedRow (B .outer)) (B .outer .tokens)) c .1, d)
+        let (x, d) = both (counts B && joinedSet (B .users) (B .leavers) && (every (joinedSet (B .users)) (B .inner .sets) && every (placedRow (B .inner)) (B .inner .tokens)) && (every (joinedSet (B .users)) (B .outer .sets) && every (placedRow (B .outer)) (B .outer .tokens)) && every (λ t. eqb (t .kind) 0) (B .outer .tokens)) (every (placed B) (B .resources)) (sym (s1-is B) ∙ s1) in
+        let (y, k) = both (counts B && joinedSet (B .users) (B .leavers) && (every (joinedSet (B .users)) (B .inner .sets) && every (placedRow (B .inner)) (B .inner .tokens)) && (every (joinedSet (B .users)) (B .outer .sets) && every (placedRow (B .outer)) (B .outer .tokens))) (every (λ t. eqb (t .kind) 0) (B .outer .tokens)) x in
+        let (z, c) = both (counts B && joinedSet (B .users) (B .leavers) && (every (joinedSet (B .users)) (B .inner .sets) && every (placedRow (B .inner)) (B .inner .tokens))) (every (joinedSet (B .users)) (B .outer .sets) && every (placedRow (B .outer)) (B .outer .tokens)) y in
+        let (n, b) = both (counts B && joinedSet (B .users) (B .leavers)) (every (joinedSet (B .users)) (B .inner .sets) && every (placedRow (B .inner)) (B .inner .tokens)) z in
+        (both (counts B) (joinedSet (B .users) (B .leavers)) n .0, both (every (joinedSet (B .users)) (B .inner .sets)) (every (placedRow (B .inner)) (B .inner .tokens)) b .1, both (every (joinedSet (B .users)) (B .outer .sets)) (every (placedRow (B .outer)) (B .outer .tokens)) c .1, d)
 
     pub s1-counts : countsOf h ≡ true
     s1-counts = sym counts-of ∙ parts1 .0
@@ -344,11 +346,11 @@ module _ (h : Head) (t : Tables) where
     unfolding bookIn placedRow
     s1-outer = subst (λ (n : ℕ). every (placedIn n) (tokensIn 4 (h .«outer_tokens» .0) (t .outerTokens)) ≡ true) (length-sets (h .«outer_vertices» .0) (t .outerVertices)) (parts1 .2)
 
-    pub s1-resources : every (placedAt (h .users .0) (h .«inner_vertices» .0) (h .«outer_vertices» .0)) (resourcesIn (h .resources .0) (t .resources)) ≡ true
+    pub s1-resources : every (placedAt (h .users .0) (h .leavers .0) (h .«inner_vertices» .0) (h .«outer_vertices» .0)) (resourcesIn (h .resources .0) (t .resources)) ≡ true
     unfolding bookIn placed
     s1-resources =
-        subst (λ (n : ℕ). every (placedAt (h .users .0) n (h .«outer_vertices» .0)) (resourcesIn (h .resources .0) (t .resources)) ≡ true) (length-sets (h .«inner_vertices» .0) (t .innerVertices))
-        (subst (λ (m : ℕ). every (placedAt (h .users .0) (length (setsIn (h .«inner_vertices» .0) (t .innerVertices))) m) (resourcesIn (h .resources .0) (t .resources)) ≡ true) (length-sets (h .«outer_vertices» .0) (t .outerVertices)) (parts1 .3))
+        subst (λ (n : ℕ). every (placedAt (h .users .0) (h .leavers .0) n (h .«outer_vertices» .0)) (resourcesIn (h .resources .0) (t .resources)) ≡ true) (length-sets (h .«inner_vertices» .0) (t .innerVertices))
+        (subst (λ (m : ℕ). every (placedAt (h .users .0) (h .leavers .0) (length (setsIn (h .«inner_vertices» .0) (t .innerVertices))) m) (resourcesIn (h .resources .0) (t .resources)) ≡ true) (length-sets (h .«outer_vertices» .0) (t .outerVertices)) (parts1 .3))
 
     module _ {i o : Shape} (ie : i ≡ innerShape h) (oe : o ≡ outerShape h) (s4 : S4 B ≡ true) where
       -- the lower of two searches' rows

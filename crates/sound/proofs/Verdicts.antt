@@ -1,6 +1,6 @@
 -- The answer of the check: 13, then 12, then a sound book.
 -- Assumes nothing.
-use Prim.Native.Nat.{ℕ, _+_, _*_}
+use Prim.Native.Nat.{_+_, _*_}
 use mathlib.Core.Path.{_≡_, refl, sym, ap, _∙_}
 use mathlib.Core.Bool.{Bool, true, false, _&&_, _||_, not, and-true, true≢false, false≢true}
 use mathlib.Core.Option.{Option, some, none}

@@ -124,12 +124,15 @@ pub fn counts_hold(h: Head) -> bool
     h.mode.0 <= 1 && nothing(bad_count(h))
 }
 
-// S1: sets, kinds and numbers, where the counts hold.
+// S1: the leavers, then sets, kinds and numbers, where the counts hold.
 fn s1(h: Head, iv: &[u8], it: &[u8], ov: &[u8], ot: &[u8], rs: &[u8]) -> Broken
     requires { ⌜ Room h (tables (now iv) (now it) (now ov) (now ot) (now rs)) ⌝ }
     requires { ⌜ countsOf h ≡ true ⌝ }
     ensures { λ r. ⌜ r ≡ brokenIs (broken (rows1 (bookIn h (tables (now (iv .entry)) (now (it .entry)) (now (ov .entry)) (now (ot .entry)) (now (rs .entry)))))) ⌝ }
 {
+    if !h.leavers.below(h.users.0) {
+        return Broken::By(Spot::Leavers);
+    }
     let i = inner_shape(h);
     let o = outer_shape(h);
     let a = row(0, strange_set(iv, i.vertices, h.users.0));
@@ -153,7 +156,10 @@ fn s1(h: Head, iv: &[u8], it: &[u8], ov: &[u8], ot: &[u8], rs: &[u8]) -> Broken
         Broken::Nowhere => {}
     }
     let n = h.resources.0 as usize;
-    row(4, misplaced(rs, n, h.users.0, i.vertices, o.vertices))
+    row(
+        4,
+        misplaced(rs, n, h.users.0, h.leavers, i.vertices, o.vertices),
+    )
 }
 
 // S2: own vertices, which no kind 0 token enters; no empty inner set.

@@ -1,6 +1,7 @@
 -- `book::first_fault` meets its contract: one test after the other, and each way out is a law. Assumes nothing.
-use Prim.Native.Nat.{_≤_, _<_}
+use Prim.Native.Nat.{_≤_}
 use mathlib.Core.Path.{_≡_, sym, ap, _∙_}
+use mathlib.Core.Bool.{true}
 use mathlib.Core.Logic.{⊎-elim}
 use mathlib.Core.Option.{none}
 use native.Mathlib.Omega.{arith}
@@ -8,12 +9,13 @@ use lib.ListN.{length}
 use borrow.Author.Needs.{needs}
 use borrow.Author.Tests.{eqb-true, eqb-false, not-true, not-false}
 use Rattle.rows.specs.Number.{cell}
-use Rattle.rules.specs.Bytes.{headIn, start, badCount, Bytes}
-use Rattle.rules.specs.declared.Head.{Head}
+use Rattle.rules.specs.Bytes.{versionIn, headIn, badCount, Bytes, known}
+use Rattle.sound.proofs.Answers.{yes}
 use Rattle.theorems.proofs.FaultSteps.{fault-short, fault-mark, fault-version, fault-mode, fault-count, fault-length, fault-rules}
 use Rattle.book.specs.Ready.{Judgeable}
 use Rattle.book.specs.Wrongs.{wrongIs}
-use Rattle.book.proofs.Answers.{mark-is, marked, mode-read, count-found, count-none, judgeable, by-rules}
+use Rattle.book.proofs.Laws.{count-left, whole-exact}
+use Rattle.book.proofs.Answers.{no, mark-is, marked, mode-read, count-found, count-none, front-there, start-header, judgeable, by-rules}
 use Rattle.book.proofs.first_fault.Statement.{statement}
 use Rattle.book.proofs.first_fault.Tie as tie
 
@@ -31,14 +33,17 @@ mark c =
     let past2 = past3 .before .before in
     mark-is _ (omega (arith, long c)) (past2 .if2 .left) (eqb-true _ _ (not-false _ (past3 .if3 .left))) (eqb-true _ _ (not-false _ (c .if4 .left)))
 
-version : (c : tie.Else5) → cell 2 3 (entry (c .before .before) .args .bytes .now) ≡ 1
-version c = sym (c .before .get2 .ensures) ∙ c .if5 .left
+abbrev past-mark : tie.Else5 → tie.Else4
+past-mark c = c .before .before .before
+
+version : (c : tie.Else5) → known (versionIn (entry (past-mark c) .args .bytes .now)) ≡ true
+version c = ap known (sym (c .before .before .version-in .ensures)) ∙ yes (c .before .known .ensures) (c .if5 .left)
 
 abbrev tested : tie.Else6 → tie.Else5
-tested c = c .before .before .before
+tested c = c .before .before .before .before
 
-mode : (c : tie.Else6) → cell 1 5 (entry (tested c .before .before) .args .bytes .now) ≤ 1
-mode c = omega (arith, c .if6 .left, mode-read _ (c .before .before .head-in .ensures))
+mode : (c : tie.Else6) → cell 1 5 (entry (past-mark (tested c)) .args .bytes .now) ≤ 1
+mode c = omega (arith, c .if6 .left, mode-read _ _ (c .before .before .header-in .ensures))
 
 -- the first count past its limit, or none
 abbrev counted : tie.After-known-told → tie.After-bad-count
@@ -48,16 +53,19 @@ abbrev uncounted : tie.After-enum-told → tie.After-bad-count
 uncounted c = c .before .before
 
 none-past : (c : tie.After-enum-told)
-    → badCount (headIn (entry (tested (uncounted c .before) .before .before) .args .bytes .now)) ≡ none
+    → badCount (headIn (entry (past-mark (tested (uncounted c .before))) .args .bytes .now)) ≡ none
 none-past c =
-    sym (ap badCount (uncounted c .before .before .before .head-in .ensures)) ∙ count-none _ (uncounted c .bad-count .ensures) (c .enum-told .given .1)
+    sym (ap badCount (uncounted c .before .before .before .header-in .ensures) ∙ count-left _ _) ∙ count-none _ (uncounted c .bad-count .ensures) (c .enum-told .given .1)
 
 -- the rules are next
-judged-next : (c : tie.Else7) → let past6 = uncounted (c .before .before) .before in Judgeable (entry (tested past6 .before .before) .args .bytes .now) (past6 .before .before .head-in .result)
+judged-next : (c : tie.After-head-in)
+    → let past5 = tested (uncounted (c .before .before .before) .before) in Judgeable (entry (past-mark past5) .args .bytes .now) (past5 .before .before .version-in .result) (c .head-in .result)
 judged-next c =
-    let u = uncounted (c .before .before) in
+    let start-of = c .before .before in
+    let u = uncounted (start-of .before) in
     let past6 = u .before in
-    judgeable _ _ (past6 .before .before .head-in .ensures) (past6 .if6 .left) (u .bad-count .ensures) (c .before .before .enum-told .given .1) (omega (arith, c .if7, c .before .start-of .ensures))
+    judgeable _ _ _ _ _ (tested past6 .before .before .version-in .ensures) (past6 .before .before .header-in .ensures) (c .head-in .ensures) (past6 .if6 .left)
+    (u .bad-count .ensures) (start-of .before .enum-told .given .1) (omega (arith, c .before .if7, start-of .start-of .ensures))
 
 -- ---- the needs
 
@@ -89,22 +97,29 @@ returns-2 c =
     (⊎-elim (λ w. eqb-false _ _ (not-true _ (w .2 .taken)) (is .1)) (λ w. eqb-false _ _ (not-true _ (w .4 .taken)) (is .2)))
     (c .if2 .came))))
 
-get2-requires : tie.Need-get2-requires
-get2-requires c κs = search needs
+version-in-requires : tie.Need-version-in-requires
+version-in-requires c κs = search needs
+
+known-requires : tie.Need-known-requires
+known-requires c κs = search needs
 
 returns-3 : tie.Need-returns-3
 returns-3 c =
-    let past4 = c .before .before in
-    ap wrongIs (sym (fault-version _ (long past4) (mark past4) (λ e. c .if5 .taken (c .before .get2 .ensures ∙ e))))
+    let read = c .before .before in
+    let past4 = read .before in
+    ap wrongIs (sym (fault-version _ (long past4) (mark past4) (ap known (sym (read .version-in .ensures)) ∙ no (c .before .known .ensures) (c .if5 .taken))))
 
-head-in-requires : tie.Need-head-in-requires
-head-in-requires c κs = search needs
+empty-requires : tie.Need-empty-requires
+empty-requires c κs = search needs
+
+header-in-requires : tie.Need-header-in-requires
+header-in-requires c κs = search needs
 
 returns-4 : tie.Need-returns-4
 returns-4 c =
-    let past5 = c .before .before .before in
-    let past4 = past5 .before .before in
-    ap wrongIs (sym (fault-mode _ (long past4) (mark past4) (version past5) (omega (arith, c .if6 .taken, mode-read _ (c .before .before .head-in .ensures)))))
+    let past5 = c .before .before .before .before in
+    let past4 = past-mark past5 in
+    ap wrongIs (sym (fault-mode _ (long past4) (mark past4) (version past5) (omega (arith, c .if6 .taken, mode-read _ _ (c .before .before .header-in .ensures)))))
 
 bad-count-requires : tie.Need-bad-count-requires
 bad-count-requires c κs = search needs
@@ -122,9 +137,9 @@ returns-5 : tie.Need-returns-5
 returns-5 c =
     let past6 = counted c .before in
     let past5 = tested past6 in
-    let past4 = past5 .before .before in
+    let past4 = past-mark past5 in
     let count = count-found _ (counted c .bad-count .ensures) (c .before .c .given .1) .1 in
-    ap wrongIs (sym (fault-count _ (long past4) (mark past4) (version past5) (mode past6) (sym (ap badCount (past6 .before .before .head-in .ensures)) ∙ count)))
+    ap wrongIs (sym (fault-count _ (long past4) (mark past4) (version past5) (mode past6) (sym (ap badCount (past6 .before .before .header-in .ensures) ∙ count-left _ _) ∙ count)))
 
 enum-told : tie.Need-enum-told
 enum-told c = search needs
@@ -137,25 +152,28 @@ returns-6 c =
     let e = c .before .before in
     let past6 = uncounted e .before in
     let past5 = tested past6 in
-    let past4 = past5 .before .before in
+    let past4 = past-mark past5 in
     ap wrongIs
     (sym
     (fault-length _ (long past4) (mark past4) (version past5) (mode past6) (none-past e)
-    (λ x. c .if7 .taken (x ∙ sym (c .before .start-of .ensures ∙ ap (λ (h : Head). start h 5) (past6 .before .before .head-in .ensures))))))
+    (λ x. c .if7 .taken (x ∙ sym (start-header _ _ 5 (c .before .start-of .ensures) (past5 .before .before .version-in .ensures) (past6 .before .before .header-in .ensures))))))
+
+head-in-requires : tie.Need-head-in-requires
+head-in-requires c κs =
+    let past6 = uncounted (c .before .before) .before in
+    front-there _ (past6 .before .before .header-in .result) (tested past6 .before .before .version-in .ensures) (omega (arith, c .if7, c .before .start-of .ensures))
 
 rule-fault-requires : tie.Need-rule-fault-requires
 rule-fault-requires c κs = judged-next c
 
 returns-7 : tie.Need-returns-7
 returns-7 c =
-    let e = c .before .before .before in
+    let j = judged-next (c .before) in
+    let e = c .before .before .before .before in
     let past6 = uncounted e .before in
     let past5 = tested past6 in
-    let past4 = past5 .before .before in
-    let head = past6 .before .before .head-in .ensures in
-    by-rules _ _ head
-    (fault-rules _ (long past4) (mark past4) (version past5) (mode past6) (none-past e) (judged-next (c .before) .exact ∙ ap (λ (h : Head). start h 5) head))
-    (c .rule-fault .ensures)
+    let past4 = past-mark past5 in
+    by-rules _ _ _ j (fault-rules _ (long past4) (mark past4) (version past5) (mode past6) (none-past e) (whole-exact _ _ _ (j .whole))) (c .rule-fault .ensures)
 
 pub first-fault-spec : {M : Type 1} → statement M
 first-fault-spec =
@@ -166,9 +184,11 @@ first-fault-spec =
     shared-slice-read-if3
     shared-slice-read-if4
     returns-2
-    get2-requires
+    version-in-requires
+    known-requires
     returns-3
-    head-in-requires
+    empty-requires
+    header-in-requires
     returns-4
     bad-count-requires
     enum-known-c
@@ -178,5 +198,6 @@ first-fault-spec =
     enum-told
     start-of-requires
     returns-6
+    head-in-requires
     rule-fault-requires
     returns-7)

@@ -10,10 +10,10 @@ use Rattle.book.proofs.load.Tie as tie
 
 -- ---- from a place back to the one before
 
-abbrev entry : tie.After-start-of4 → tie.Start
-entry c = c .before .before .before .before .before .before .before .before .before .before
+abbrev entry : tie.After-start-of5 → tie.Start
+entry c = c .before .before .before .before .before .before .before .before .before .before .before
 
-abbrev first : tie.After-slice-known6 → tie.After-start-of4
+abbrev first : tie.After-slice-known6 → tie.After-start-of5
 first c = c .before .before .before .before .before
 
 abbrev second : tie.After-slice-known7 → tie.After-slice-known6
@@ -30,13 +30,14 @@ fourth c = c .before .before .before .before .before
 abbrev within : tie.Start → Tables
 within s = tables (s .args .iv .now) (s .args .it .now) (s .args .ov .now) (s .args .ot .now) (s .args .rs .now)
 
-record Held (e : tie.After-start-of4) : Type 0 where
-  starts : Cuts (entry e .args .h) (e .before .before .before .start-of .result) (e .before .before .start-of2 .result) (e .before .start-of3 .result) (e .start-of4 .result)
-  pre : Loadable (entry e .args .bytes .now) (entry e .args .h) (within (entry e))
+record Held (e : tie.After-start-of5) : Type 0 where
+  starts : Cuts (entry e .args .version) (entry e .args .h)
+      (e .before .before .before .before .start-of .result) (e .before .before .before .start-of2 .result) (e .before .before .start-of3 .result) (e .before .start-of4 .result) (e .start-of5 .result)
+  pre : Loadable (entry e .args .bytes .now) (entry e .args .version) (entry e .args .h) (within (entry e))
 
-held : (c : tie.After-start-of4) → Held c
+held : (c : tie.After-start-of5) → Held c
 held c = record {
-  starts = cuts (entry c .args .h) _ _ _ _ (c .before .before .before .start-of .ensures) (c .before .before .start-of2 .ensures) (c .before .start-of3 .ensures) (c .start-of4 .ensures);
+  starts = cuts (entry c .args .version) (entry c .args .h) _ _ _ _ _ (c .before .before .before .before .start-of .ensures) (c .before .before .before .start-of2 .ensures) (c .before .before .start-of3 .ensures) (c .before .start-of4 .ensures) (c .start-of5 .ensures);
   pre = entry c .pre;
 }
 
@@ -53,6 +54,9 @@ start-of-requires-3 c κs = search needs
 
 start-of-requires-4 : tie.Need-start-of-requires-4
 start-of-requires-4 c κs = search needs
+
+start-of-requires-5 : tie.Need-start-of-requires-5
+start-of-requires-5 c κs = search needs
 
 sub-copy : tie.Need-sub-copy
 sub-copy c = omega (arith, held c)
@@ -137,7 +141,7 @@ returns c =
     let one = second two in
     let e = first one in
     let s = entry e in
-    loaded (s .args .bytes .now) (s .args .h) (within s) _ _ _ _ _ (s .pre) (λ i. e .before .before .before .before .before .before .before .before .before .shared-slice-known .given i .fits) (held e .starts)
+    loaded (s .args .bytes .now) (s .args .version) (s .args .h) (within s) _ _ _ _ _ _ (s .pre) (λ i. e .before .before .before .before .before .before .before .before .before .before .shared-slice-known .given i .fits) (held e .starts)
     (one .before .before .copy .ensures)
     (two .before .before .copy2 .ensures)
     (three .before .before .copy3 .ensures)
@@ -152,6 +156,7 @@ load-spec =
     start-of-requires-2
     start-of-requires-3
     start-of-requires-4
+    start-of-requires-5
     sub-copy
     part-copy-start
     part-copy-end

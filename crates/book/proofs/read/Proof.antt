@@ -7,7 +7,7 @@ use Rattle.rules.specs.Bytes.{Tables, tables, isBook}
 use Rattle.rules.specs.Refusals.{short}
 use Rattle.sound.proofs.Answers.{yes}
 use Rattle.theorems.proofs.WriteLaws.{book-bytes}
-use Rattle.book.proofs.Answers.{no, book-nothing, loadable, read-short, read-broken, read-given}
+use Rattle.book.proofs.Answers.{no, book-nothing, book-front, loadable, read-short, read-broken, read-given}
 use Rattle.book.proofs.read.Statement.{statement}
 use Rattle.book.proofs.read.Tie as tie
 
@@ -21,7 +21,7 @@ lent s = tables (s .args .iv .now) (s .args .it .now) (s .args .ov .now) (s .arg
 
 abbrev left : tie.After-load → Tables
 left c =
-    let u = c .load .last .1 .1 in
+    let u = c .load .last .1 .1 .1 in
     tables (u .0) (u .1 .0) (u .1 .1 .0) (u .1 .1 .1 .0) (u .1 .1 .1 .1 .0)
 
 long : (c : tie.Else1) → short (lent (entry c)) ≡ false
@@ -86,12 +86,16 @@ enum-told : tie.Need-enum-told
 enum-told c = search needs
 
 head-in-requires : tie.Need-head-in-requires
-head-in-requires c κs = book-bytes _ (is c) .long
+head-in-requires c κs = book-front _ (is c)
+
+version-in-requires : tie.Need-version-in-requires
+version-in-requires c κs = book-bytes _ (is (c .before)) .long
 
 load-requires : tie.Need-load-requires
 load-requires c κs =
-    let h = c .before .before .before .before .before in
-    loadable _ _ _ (h .head-in .ensures) (long (passed (h .before))) (is (h .before))
+    let v = c .before .before .before .before .before in
+    let h = v .before in
+    loadable _ _ _ _ (v .version-in .ensures) (h .head-in .ensures) (long (passed (h .before))) (is (h .before))
 
 same-length-11 : tie.Need-same-length-11
 same-length-11 c = search needs
@@ -111,7 +115,7 @@ same-length-15 c = search needs
 returns-3 : tie.Need-returns-3
 returns-3 c =
     let l = c .before .before .before .before .before .before .before .before .before .before in
-    let h = l .before .before .before .before .before .before in
+    let h = l .before .before .before .before .before .before .before in
     read-given _ _ _ (left l) (long (passed (h .before))) (is (h .before)) (h .head-in .ensures) (l .load .ensures)
 
 pub read-spec : {M : Type 1} → statement M
@@ -135,6 +139,7 @@ read-spec =
     returns-2
     enum-told
     head-in-requires
+    version-in-requires
     load-requires
     same-length-11
     same-length-12

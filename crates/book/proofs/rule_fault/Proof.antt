@@ -14,27 +14,28 @@ use Rattle.book.proofs.rule_fault.Tie as tie
 
 -- ---- from a place back to the one before
 
-abbrev entry : tie.After-start-of4 → tie.Start
-entry c = c .before .before .before .before .before
+abbrev entry : tie.After-start-of5 → tie.Start
+entry c = c .before .before .before .before .before .before
 
-abbrev cut : tie.After-first-rule → tie.After-start-of4
+abbrev cut : tie.After-first-rule → tie.After-start-of5
 cut c = c .before .before .before .before .before .before
 
 -- ---- the length is exact, and the starts are in their order
 
-record Held (e : tie.After-start-of4) : Type 0 where
-  exact : length (entry e .args .bytes .now) ≡ start (entry e .args .h) 5
-  starts : Cuts (entry e .args .h) (e .before .before .before .start-of .result) (e .before .before .start-of2 .result) (e .before .start-of3 .result) (e .start-of4 .result)
+record Held (e : tie.After-start-of5) : Type 0 where
+  exact : length (entry e .args .bytes .now) ≡ start (entry e .args .version) (entry e .args .h) 5
+  starts : Cuts (entry e .args .version) (entry e .args .h)
+      (e .before .before .before .before .start-of .result) (e .before .before .before .start-of2 .result) (e .before .before .start-of3 .result) (e .before .start-of4 .result) (e .start-of5 .result)
 
-held : (c : tie.After-start-of4) → Held c
+held : (c : tie.After-start-of5) → Held c
 held c = record {
-  exact = entry c .pre .exact;
-  starts = cuts (entry c .args .h) _ _ _ _ (c .before .before .before .start-of .ensures) (c .before .before .start-of2 .ensures) (c .before .start-of3 .ensures) (c .start-of4 .ensures);
+  exact = entry c .pre .whole .exact;
+  starts = cuts (entry c .args .version) (entry c .args .h) _ _ _ _ _ (c .before .before .before .before .start-of .ensures) (c .before .before .before .start-of2 .ensures) (c .before .before .start-of3 .ensures) (c .before .start-of4 .ensures) (c .start-of5 .ensures);
 }
 
 -- the rules judge the book that is read
 judged : (c : tie.After-first-rule) → c .first-rule .result ≡ judgedIs (firstRule (rules (read (entry (cut c) .args .bytes .now))))
-judged c = read-judged _ _ _ _ _ _ (entry (cut c) .pre) (held (cut c) .starts) (c .first-rule .ensures)
+judged c = read-judged _ _ _ _ _ _ _ _ (entry (cut c) .pre) (held (cut c) .starts) (c .first-rule .ensures)
 
 -- ---- the needs
 
@@ -49,6 +50,9 @@ start-of-requires-3 c κs = search needs
 
 start-of-requires-4 : tie.Need-start-of-requires-4
 start-of-requires-4 c κs = search needs
+
+start-of-requires-5 : tie.Need-start-of-requires-5
+start-of-requires-5 c κs = search needs
 
 sub-first-rule : tie.Need-sub-first-rule
 sub-first-rule c = omega (arith, held c)
@@ -98,7 +102,7 @@ part-first-rule-end-5 c = search needs
 first-rule-requires : tie.Need-first-rule-requires
 first-rule-requires c κs =
     let e = c .before .before .before .before .before in
-    (parts-room _ _ _ _ _ _ (entry e .pre .exact) (held e .starts), entry e .pre .within)
+    (parts-room _ _ _ _ _ _ _ _ (entry e .pre .whole .exact) (held e .starts), entry e .pre .within)
 
 enum-told : tie.Need-enum-told
 enum-told c = search needs
@@ -109,13 +113,13 @@ enum-known-j c = search needs
 place-of-requires : tie.Need-place-of-requires
 place-of-requires c κs =
     let r = c .before .before .before in
-    spot-counted _ _ _ (entry (cut r) .pre) (judged r) (c .before .j .given .1)
+    spot-counted _ _ _ _ (entry (cut r) .pre) (judged r) (c .before .j .given .1)
 
 returns : tie.Need-returns
-returns c = rule-nothing _ _ (judged (c .before .before)) (c .enum-told .given .1)
+returns c = rule-nothing _ _ _ (judged (c .before .before)) (c .enum-told .given .1)
 
 returns-2 : tie.Need-returns-2
-returns-2 c = rule-first _ _ (judged (c .before .before .before .before)) (c .before .before .j .given .1) (c .place-of .ensures)
+returns-2 c = rule-first _ _ _ (judged (c .before .before .before .before)) (c .before .before .j .given .1) (c .place-of .ensures)
 
 pub rule-fault-spec : {M : Type 1} → statement M
 rule-fault-spec =
@@ -125,6 +129,7 @@ rule-fault-spec =
     start-of-requires-2
     start-of-requires-3
     start-of-requires-4
+    start-of-requires-5
     sub-first-rule
     part-first-rule-start
     part-first-rule-end

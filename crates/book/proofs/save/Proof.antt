@@ -5,7 +5,7 @@ use Prim.Native.Nat.{ℕ}
 use native.Mathlib.Omega.{arith}
 use lib.ListN.{length}
 use borrow.Author.Needs.{needs}
-use Rattle.rules.specs.Bytes.{start, Tables, tables}
+use Rattle.rules.specs.Bytes.{newest, fore, start, Tables, tables}
 use Rattle.theorems.proofs.ByteLaws.{TableBytes}
 use Rattle.book.specs.Ready.{Savable}
 use Rattle.book.proofs.Laws.{Cuts, cuts, saved}
@@ -14,10 +14,10 @@ use Rattle.book.proofs.save.Tie as tie
 
 -- ---- from a place back to the one before
 
-abbrev entry : tie.After-start-of4 → tie.Start
-entry c = c .before .before .before .before .before .before .before .before .before .before .before .before .before .before
+abbrev entry : tie.After-start-of5 → tie.Start
+entry c = c .before .before .before .before .before .before .before .before .before .before .before .before .before .before .before
 
-abbrev cut : tie.After-put → tie.After-start-of4
+abbrev cut : tie.After-put → tie.After-start-of5
 cut c = c .before .before
 
 abbrev first : tie.After-put2 → tie.After-put
@@ -37,19 +37,20 @@ fourth c = c .before .before .before .before .before
 abbrev within : tie.Start → Tables
 within s = tables (s .args .iv .now) (s .args .it .now) (s .args .ov .now) (s .args .ot .now) (s .args .rs .now)
 
-record Held (e : tie.After-start-of4) (buffer : List ℕ) : Type 0 where
+record Held (e : tie.After-start-of5) (buffer : List ℕ) : Type 0 where
   length′ : length buffer ≡ length (entry e .args .buffer .now)
-  starts : Cuts (entry e .args .h) (e .before .before .before .start-of .result) (e .before .before .start-of2 .result) (e .before .start-of3 .result) (e .start-of4 .result)
+  starts : Cuts newest (entry e .args .h)
+      (e .before .before .before .before .start-of .result) (e .before .before .before .start-of2 .result) (e .before .before .start-of3 .result) (e .before .start-of4 .result) (e .start-of5 .result)
   pre : Savable (entry e .args .h) (within (entry e)) (entry e .args .buffer .now)
 
-held : (c : tie.After-start-of4) → Held c (c .before .before .before .before .before .before .put-header .last .0)
+held : (c : tie.After-start-of5) → Held c (c .before .before .before .before .before .before .before .put-front .last .0)
 held c = record {
-  length′ = c .before .before .before .before .before .before .put-header .kept .0;
-  starts = cuts (entry c .args .h) _ _ _ _ (c .before .before .before .start-of .ensures) (c .before .before .start-of2 .ensures) (c .before .start-of3 .ensures) (c .start-of4 .ensures);
+  length′ = c .before .before .before .before .before .before .before .put-front .kept .0;
+  starts = cuts newest (entry c .args .h) _ _ _ _ _ (c .before .before .before .before .start-of .ensures) (c .before .before .before .start-of2 .ensures) (c .before .before .start-of3 .ensures) (c .before .start-of4 .ensures) (c .start-of5 .ensures);
   pre = entry c .pre;
 }
 
-again : (e : tie.After-start-of4) (u v : List ℕ) → Held e u → length v ≡ length u → Held e v
+again : (e : tie.After-start-of5) (u v : List ℕ) → Held e u → length v ≡ length u → Held e v
 again e u v h l = record { length′ = l ∙ h .length′; starts = h .starts; pre = h .pre }
 
 held1 : (c : tie.After-put) → Held (cut c) (c .put .last .1 .1 .0)
@@ -66,9 +67,9 @@ held4 c = again _ _ _ (held3 (third c)) (c .put4 .kept .1 .1 .0)
 
 -- ---- the needs
 
-put-header-requires : tie.Need-put-header-requires
-unfolding start
-put-header-requires c κs = omega (arith, c .before .before .before .before .before .before .before .pre)
+put-front-requires : tie.Need-put-front-requires
+unfolding start fore
+put-front-requires c κs = omega (arith, c .before .before .before .before .before .before .before .pre)
 
 start-of-requires : tie.Need-start-of-requires
 start-of-requires c κs = search needs
@@ -81,6 +82,9 @@ start-of-requires-3 c κs = search needs
 
 start-of-requires-4 : tie.Need-start-of-requires-4
 start-of-requires-4 c κs = search needs
+
+start-of-requires-5 : tie.Need-start-of-requires-5
+start-of-requires-5 c κs = search needs
 
 sub-put : tie.Need-sub-put
 sub-put c = omega (arith, held c)
@@ -106,17 +110,17 @@ sub-put-4 c = omega (arith, held3 (c .before .before))
 put-requires-4 : tie.Need-put-requires-4
 put-requires-4 c κs = omega (arith, held3 (c .before .before .before))
 
-start-of-requires-5 : tie.Need-start-of-requires-5
-start-of-requires-5 c κs = search needs
+start-of-requires-6 : tie.Need-start-of-requires-6
+start-of-requires-6 c κs = search needs
 
 sub-put-5 : tie.Need-sub-put-5
-sub-put-5 c = omega (arith, held4 (c .before .before .before), c .start-of5 .ensures)
+sub-put-5 c = omega (arith, held4 (c .before .before .before), c .start-of6 .ensures)
 
 put-requires-5 : tie.Need-put-requires-5
-put-requires-5 c κs = omega (arith, held4 (c .before .before .before .before), c .before .start-of5 .ensures)
+put-requires-5 c κs = omega (arith, held4 (c .before .before .before .before), c .before .start-of6 .ensures)
 
 same-length : tie.Need-same-length
-same-length c = search needs
+same-length c = let five = c .before .before in five .put5 .kept .1 .1 .0 ∙ held4 (fourth five) .length′
 
 returns : tie.Need-returns
 returns c =
@@ -126,7 +130,7 @@ returns c =
     let two = second three in
     let one = first two in
     let e = cut one in
-    let h = e .before .before .before .before .before .before in
+    let h = e .before .before .before .before .before .before .before in
     let known = h .before .before .before in
     let s = entry e in
     let bytes : TableBytes (within s) = record {
@@ -137,8 +141,8 @@ returns c =
       resources = λ i. known .shared-slice-known5 .given i .fits;
     } in
     let end = five .before .before in
-    saved (s .args .h) (within s) (s .args .buffer .now) _ _ _ _ _ _ _ _ _ _ (end .start-of5 .result) (s .pre) bytes (held e .starts) (end .start-of5 .ensures)
-    (h .put-header .ensures)
+    saved (s .args .h) (within s) (s .args .buffer .now) _ _ _ _ _ _ _ _ _ _ _ (end .start-of6 .result) (s .pre) bytes (held e .starts) (end .start-of6 .ensures)
+    (h .put-front .ensures)
     (one .put .ensures)
     (two .put2 .ensures)
     (three .put3 .ensures)
@@ -149,11 +153,12 @@ pub save-spec : {M : Type 1} → statement M
 save-spec =
     tie.close
     (tie.spec
-    put-header-requires
+    put-front-requires
     start-of-requires
     start-of-requires-2
     start-of-requires-3
     start-of-requires-4
+    start-of-requires-5
     sub-put
     put-requires
     sub-put-2
@@ -162,7 +167,7 @@ save-spec =
     put-requires-3
     sub-put-4
     put-requires-4
-    start-of-requires-5
+    start-of-requires-6
     sub-put-5
     put-requires-5
     same-length

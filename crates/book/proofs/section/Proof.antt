@@ -1,14 +1,13 @@
 -- `book::section` meets its contract: the section of a book lies between its start and the next one's. Assumes nothing.
 use Prim.Native.Nat.{_+_, _≤_}
-use mathlib.Core.Path.{_≡_, ap, _∙_}
+use mathlib.Core.Path.{_≡_}
 use mathlib.Core.Bool.{true}
 use native.Mathlib.Omega.{arith}
 use lib.ListN.{length}
 use borrow.Author.Needs.{needs}
-use Rattle.rules.specs.Bytes.{headIn, start, isBook}
-use Rattle.rules.specs.declared.Head.{Head}
+use Rattle.rules.specs.Bytes.{versionIn, headIn, start, isBook}
 use Rattle.theorems.proofs.WriteLaws.{book-bytes}
-use Rattle.book.proofs.Answers.{book-nothing, section-within, section-broken, section-none, section-given}
+use Rattle.book.proofs.Answers.{start-read, book-nothing, book-front, section-within, section-broken, section-none, section-given}
 use Rattle.book.proofs.section.Statement.{statement}
 use Rattle.book.proofs.section.Tie as tie
 
@@ -18,16 +17,18 @@ is : (c : tie.After-enum-told) → isBook (c .before .before .before .before .ar
 is c = book-nothing _ (c .before .before .first-fault .ensures) (c .enum-told .given .1)
 
 abbrev passed : tie.After-start-of2 → tie.After-enum-told
-passed c = c .before .before .before .before
+passed c = c .before .before .before .before .before
 
 abbrev entry : tie.After-start-of2 → tie.Start
 entry c = passed c .before .before .before .before
 
-from : (c : tie.After-start-of2) → c .before .start-of .result ≡ start (headIn (entry c .args .bytes .now)) (entry c .args .k)
-from c = c .before .start-of .ensures ∙ ap (λ (h : Head). start h (entry c .args .k)) (c .before .before .head-in .ensures)
+from : (c : tie.After-start-of2)
+    → let bs = entry c .args .bytes .now in c .before .start-of .result ≡ start (versionIn bs) (headIn bs) (entry c .args .k)
+from c = start-read _ _ (c .before .start-of .ensures) (c .before .before .before .version-in .ensures) (c .before .before .head-in .ensures)
 
-to : (c : tie.After-start-of2) → c .start-of2 .result ≡ start (headIn (entry c .args .bytes .now)) (entry c .args .k + 1)
-to c = c .start-of2 .ensures ∙ ap (λ (h : Head). start h (entry c .args .k + 1)) (c .before .before .head-in .ensures)
+to : (c : tie.After-start-of2)
+    → let bs = entry c .args .bytes .now in c .start-of2 .result ≡ start (versionIn bs) (headIn bs) (entry c .args .k + 1)
+to c = start-read _ _ (c .start-of2 .ensures) (c .before .before .before .version-in .ensures) (c .before .before .head-in .ensures)
 
 within : (c : tie.After-start-of2) → (c .before .start-of .result ≤ c .start-of2 .result) × (c .start-of2 .result ≤ length (entry c .args .bytes .now))
 within c = section-within _ _ _ _ (is (passed c)) (from c) (to c)
@@ -75,8 +76,11 @@ part-result-end-2 c = search needs
 returns-2 : tie.Need-returns-2
 returns-2 c = section-none _ _ (is (c .before .before)) (omega arith)
 
+version-in-requires : tie.Need-version-in-requires
+version-in-requires c κs = book-bytes _ (is (c .before)) .long
+
 head-in-requires : tie.Need-head-in-requires
-head-in-requires c κs = book-bytes _ (is (c .before)) .long
+head-in-requires c κs = book-front _ (is (c .before .before))
 
 start-of-requires : tie.Need-start-of-requires
 start-of-requires c κs = search needs
@@ -99,7 +103,7 @@ part-result-end-3 c = omega (arith, within c)
 returns-3 : tie.Need-returns-3
 returns-3 c =
     let e = c .before in
-    section-given _ _ _ _ (is (passed e)) (e .before .before .before .if1 .left) (from e) (to e)
+    section-given _ _ _ _ (is (passed e)) (e .before .before .before .before .if1 .left) (from e) (to e)
 
 pub section-spec : {M : Type 1} → statement M
 section-spec =
@@ -118,6 +122,7 @@ section-spec =
     part-result-start-2
     part-result-end-2
     returns-2
+    version-in-requires
     head-in-requires
     start-of-requires
     add-start-of

@@ -46,14 +46,18 @@ put-number-requires-4 c κs =
     omega (arith, c .before .before .before .before .before .before .before .before .before .before .before .before .before .before .before .before .before .before .before .before .before .before .pre, w .ensures .1, w .kept, x .ensures .1, x .kept, y .ensures .1, y .kept)
 
 same-length : tie.Need-same-length
-same-length c = search needs
+same-length c = omega (arith, c .before .before .before .before .before .before .before .before .before .before .before .before .before .before .before .before .before .before .before .before .put-number .kept, c .before .before .before .before .before .before .before .before .before .before .before .before .before .before .put-number2 .kept, c .before .before .before .before .before .before .before .before .put-number3 .kept, c .before .before .put-number4 .kept)
 
 returns : tie.Need-returns
 returns c =
     let s = c .before .before .before .before .before .before .before .before .before .before .before .before .before .before .before .before .before .before .before .before .before .before .before .before .before in
     let w = c .before .before .before .before .before .before .before .before .before .before .before .before .before .before .before .before .before .before .before .before .put-number in
     let x = c .before .before .before .before .before .before .before .before .before .before .before .before .before .before .put-number2 in
-    layers-text (s .args .h) (omega (arith, s .pre)) (omega (arith, s .pre, w .ensures .1, w .kept)) (omega (arith, s .pre, w .ensures .1, w .kept, x .ensures .1, x .kept)) (w .ensures .0) (x .ensures .0) (c .before .before .before .before .before .before .before .before .put-number3 .ensures .0) (c .before .before .put-number4 .ensures .0)
+    let y = c .before .before .before .before .before .before .before .before .put-number3 in
+    let z = c .before .before .put-number4 in (
+      layers-text (s .args .h) (omega (arith, s .pre)) (omega (arith, s .pre, w .ensures .1, w .kept)) (omega (arith, s .pre, w .ensures .1, w .kept, x .ensures .1, x .kept)) (w .ensures .0) (x .ensures .0) (y .ensures .0) (z .ensures .0),
+      omega (arith, w .ensures .1, x .ensures .1, y .ensures .1, z .ensures .1),
+    )
 
 pub put-layers-spec : {M : Type 1} → statement M
 put-layers-spec =

@@ -84,7 +84,7 @@ same-length-5 c = search needs
 returns-5 : tie.Need-returns-5
 returns-5 c =
     let s = c .before .before .before .before .before .before .before in
-    rw (sentence-length (s .args .h) (s .args .f) _ (c .before .before .before .before .enum-told4 .given .1) (s .pre .1)) (c .before .before .put-length .ensures)
+    rw (sentence-length (s .args .version) (s .args .h) (s .args .f) _ (c .before .before .before .before .enum-told4 .given .1) (s .pre .1)) (c .before .before .put-length .ensures)
 
 same-length-6 : tie.Need-same-length-6
 same-length-6 c = search needs
