@@ -235,6 +235,7 @@ counting h n =
       «inner_tokens» = h .«inner_tokens»;
       «outer_vertices» = h .«outer_vertices»;
       «outer_tokens» = h .«outer_tokens»;
+      leavers = h .leavers;
     }
 
 -- a new resource with list l and inner vertex v; its order is not told yet

@@ -1,14 +1,14 @@
 // Applying a request that no refusal stops: the rows, and the orders in the order of RULES 6.2.
 // The five tables are iv, it, ov, ot, rs: inner vertices and tokens, outer vertices and tokens, resources.
 use crate::grant::apply_grant;
+use crate::leave::apply_leave;
 use crate::step::Step;
-use crate::step::lock_with;
 use crate::step::settle;
+use crate::step::strike;
 use crate::step::with_inner;
 use layer::cover::put_order;
 use layer::make::vertex_for;
 use layer::table::put_set;
-use layer::table::resource_in;
 use layer::walk::inner_shape;
 use plan::Plan;
 use plan::Request;
@@ -23,7 +23,6 @@ use rules::Resources;
 use sets::User;
 use sets::Users;
 use write::add_resource;
-use write::relist;
 ghost use mathlib.Core.Path.{_≡_};
 ghost use Rattle.sets.specs.Words.{setIn};
 ghost use Rattle.rules.specs.Bytes.{tables, bookIn};
@@ -33,6 +32,7 @@ ghost use Rattle.plan.specs.Judge.{requestOf, planOf};
 ghost use Rattle.apply.specs.Apply.{Accepted, applied};
 
 pub mod grant;
+pub mod leave;
 pub mod step;
 
 // The head after a request, and how many orders it gave.
@@ -117,11 +117,8 @@ pub fn apply_revoke(
     requires { ⌜ Accepted (revokes (r .0) (u .0)) h (tables (now iv) (now it) (now ov) (now ot) (now rs)) (now orders) ⌝ }
     ensures { λ a. ⌜ applied a (tables (now (iv .exit)) (now (it .exit)) (now (ov .exit)) (now (ot .exit)) (now (rs .exit))) (now (orders .exit)) ≡ change (revokes (r .0) (u .0)) h (tables (now (iv .entry)) (now (it .entry)) (now (ov .entry)) (now (ot .entry)) (now (rs .entry))) (now (orders .entry)) ⌝ }
 {
-    let n = h.resources.0 as usize;
-    let x = resource_in(rs, n, r.0 as usize);
-    let list = x.list.without(u);
-    relist(rs, n, r, list);
-    let a = lock_with(h, ov, ot, rs, orders, 0, r, list);
+    let start = Step { head: h, at: 0 };
+    let a = strike(start, ov, ot, rs, orders, r, u);
     let head = a.head;
     Applied {
         head,
@@ -150,5 +147,6 @@ pub fn apply(
         Request::Insert(l) => apply_insert(h, iv, it, ov, ot, rs, orders, l, p),
         Request::Grant(r, u) => apply_grant(h, iv, it, ov, ot, rs, orders, r, u, p),
         Request::Revoke(r, u) => apply_revoke(h, iv, it, ov, ot, rs, orders, r, u),
+        Request::Leave(u) => apply_leave(h, iv, it, ov, ot, rs, orders, u),
     }
 }

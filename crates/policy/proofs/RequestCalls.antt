@@ -4,7 +4,6 @@ use Prim.Native.Nat.{ℕ}
 use mathlib.Core.Path.{_≡_, refl, sym, ap, _∙_}
 use mathlib.Core.List.{List, [], _++_, append-assoc}
 use mathlib.Core.Option.{Option, some, none}
-use Rattle.rules.specs.Sound.{sound}
 use Rattle.rules.specs.Bytes.{Tables, bookIn}
 use Rattle.rules.specs.Refusals.{Request, work, own, limits, verdict, common, refusal}
 use Rattle.rules.specs.Calls.{change, changeBy, changing, rowsLent}
@@ -64,7 +63,7 @@ module _ (q : Request) (h : Head) (t : Tables) (list : List ℕ) (g : Ready h t)
       ap verdict (append-assoc (common t (bookIn h t)) (own q (bookIn h t)) (limits (rowsLent list) (work q (bookIn h t))))
       ∙ common-passed t (bookIn h t) (own q (bookIn h t) ++ limits (rowsLent list) (work q (bookIn h t))) (g .long) (g .sound′)
 
-  -- 1 to 10
+  -- 1 to 10, and 15
   pub call-refused : {n : Refusal} → j ≡ plans.No n → changing (changed.No n) t list ≡ change q h t list
   unfolding judged change changeBy
   call-refused {n} e =

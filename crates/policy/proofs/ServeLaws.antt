@@ -2,22 +2,22 @@
 -- Assumes nothing.
 use Prim.Native.Nat.{ℕ, _+_, _*_, _/_, _-_, _≤_, _<_}
 use mathlib.Core.Path.{_≡_, refl, sym, ap, ap₂, _∙_, subst}
-use mathlib.Core.Bool.{Bool, true, false, _&&_, cond, true≢false}
+use mathlib.Core.Bool.{Bool, true, false, _&&_, not, cond, true≢false}
 use mathlib.Core.List.{List, [], _∷_, _++_, append-assoc}
 use mathlib.Core.Option.{Option, some, none}
 use native.Mathlib.Nat.{add-assoc, add-zero, zero-add}
 use native.Mathlib.Numerals.{add-one}
 use native.Mathlib.Omega.{arith}
-use lib.Dec.{ltb}
+use lib.Dec.{ltb, lit≤}
 use lib.ListN.{length, take, drop, getD, length-append, length-drop, take-append-drop, drop-of-length-le}
 use lib.Seq.{length-take-le, take-at, drop-at, drop-cons, drop-drop}
-use borrow.Author.Tests.{lt-ltb, le-ltb}
+use borrow.Author.Tests.{ltb-true, lt-ltb, le-ltb}
 use borrow.Rule.Slice.PartMut.{putMid}
 use Rattle.rows.specs.Number.{stored}
 use Rattle.rows.proofs.Laws.{stored-none, stored-both, length-stored}
 use Rattle.rows.proofs.Part.{take-behind, drop-behind, part-lent, part-back}
 use Rattle.rules.specs.Bytes.{Tables, bookIn}
-use Rattle.rules.specs.Refusals.{Request, joins, inserts, grants, revokes, work, own, limits, verdict, common, noSuch}
+use Rattle.rules.specs.Refusals.{Request, joins, inserts, grants, revokes, leaves, work, own, limits, verdict, common, noSuch}
 use Rattle.rules.specs.Calls.{rowsLent, change, changeBy, Asked, changes, opens, nothing, asked, askedIn, One, one, changeOne, openOne, All, all, Service, serving, serveBy, refusalServe, serveCall}
 use Rattle.rules.specs.Runs.{keep, bookOf}
 use Rattle.rules.specs.declared.Head.{Head}
@@ -79,6 +79,14 @@ module _ (h : Head) (t : Tables) (g : Ready h t) where
     unfolding own
     revoke-past r u w = change-past (revokes r u) (verdict-here NoSuch _ (past u r w))
 
+    leave-past : (u : ℕ) → (u < 65536 → ⊥) → one nothing h t list ≡ one (changes (leaves u)) h t list
+    unfolding own
+    leave-past u w = change-past (leaves u) (verdict-here NoSuch _ (go (ltb u (bookIn h t .users)) refl))
+      where
+        go : (z : Bool) → ltb u (bookIn h t .users) ≡ z → not z ≡ true
+        go true e = absurd (w (omega (arith, ltb-true u (bookIn h t .users) e, sound-counts (bookIn h t) (g .sound′) .users≤)))
+        go false e = refl
+
     open-past : (u r : ℕ) → (u < 65536 → r < 65536 → ⊥) → one nothing h t list ≡ one (opens u r) h t list
     unfolding one openOne bookOf
     open-past u r w = rw (ready-open (keep h t) (rowsLent list) u r kept-ready ∙ verdict-here NoSuch _ (past u r w))
@@ -97,6 +105,7 @@ module _ (h : Head) (t : Tables) (g : Ready h t) where
     narrow-one (changes (inserts l)) = refl
     narrow-one (changes (grants r u)) = within-one r u (changes (grants r u)) (λ w. grant-past r u (λ x y. w y x))
     narrow-one (changes (revokes r u)) = within-one r u (changes (revokes r u)) (λ w. revoke-past r u (λ x y. w y x))
+    narrow-one (changes (leaves u)) = within-one u 0 (changes (leaves u)) (λ w. leave-past u (λ x. w x (lit≤ tt)))
     narrow-one (opens u r) = within-one u r (opens u r) (open-past u r)
     narrow-one nothing = refl
 

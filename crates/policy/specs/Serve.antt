@@ -1,14 +1,13 @@
 -- Several requests in one call: what a row asks of the code, and what one request answers. RULES 8.8.
 -- Assumes nothing.
-use Prim.Native.Nat.{ℕ, _*_, _≤_}
+use Prim.Native.Nat.{ℕ, _≤_}
 use mathlib.Core.Path.{_≡_}
 use mathlib.Core.Bool.{_&&_, cond}
 use mathlib.Core.List.{List, [], _∷_, map}
 use lib.Dec.{ltb}
-use lib.ListN.{length}
 use Rattle.rows.specs.Number.{joined}
 use Rattle.rules.specs.Bytes.{Tables}
-use Rattle.rules.specs.Refusals.{joins, inserts, grants, revokes}
+use Rattle.rules.specs.Refusals.{joins, inserts, grants, revokes, leaves}
 use Rattle.rules.specs.Calls.{Asked, changes, opens, nothing, One, refusedOne, changeOne, Service, serving, rowsLent}
 use Rattle.rules.specs.declared.Head.{Head}
 use Rattle.rules.specs.declared.Refusal.{Refusal}
@@ -35,6 +34,7 @@ narrow (changes joins) = changes joins
 narrow (changes (inserts l)) = changes (inserts l)
 narrow (changes (grants r u)) = within16 r u (changes (grants r u))
 narrow (changes (revokes r u)) = within16 r u (changes (revokes r u))
+narrow (changes (leaves u)) = within16 u 0 (changes (leaves u))
 narrow (opens u r) = within16 u r (opens u r)
 narrow nothing = nothing
 

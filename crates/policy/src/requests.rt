@@ -15,7 +15,7 @@ use sound::check;
 ghost use mathlib.Core.Path.{_≡_};
 ghost use Rattle.sets.specs.Words.{setIn};
 ghost use Rattle.rules.specs.Bytes.{tables};
-ghost use Rattle.rules.specs.Refusals.{joins, inserts, grants, revokes};
+ghost use Rattle.rules.specs.Refusals.{joins, inserts, grants, revokes, leaves};
 ghost use Rattle.rules.specs.Calls.{change, changing};
 ghost use Rattle.plan.specs.Judge.{Ready, requestOf};
 
@@ -44,7 +44,7 @@ pub fn carry_out(
     }
 }
 
-// Any of the four below.
+// Any of the five below.
 pub fn change(
     h: Head,
     iv: &mut [u8],
@@ -127,4 +127,20 @@ pub fn revoke(
     ensures { λ c. ⌜ changing c (tables (now (iv .exit)) (now (it .exit)) (now (ov .exit)) (now (ot .exit)) (now (rs .exit))) (now (orders .exit)) ≡ change (revokes (r .0) (u .0)) h (tables (now (iv .entry)) (now (it .entry)) (now (ov .entry)) (now (ot .entry)) (now (rs .entry))) (now (orders .entry)) ⌝ }
 {
     change(h, iv, it, ov, ot, rs, orders, Request::Revoke(r, u))
+}
+
+// User u leaves every list, for good.
+pub fn leave(
+    h: Head,
+    iv: &mut [u8],
+    it: &mut [u8],
+    ov: &mut [u8],
+    ot: &mut [u8],
+    rs: &mut [u8],
+    orders: &mut [u16],
+    u: User,
+) -> Changed
+    ensures { λ c. ⌜ changing c (tables (now (iv .exit)) (now (it .exit)) (now (ov .exit)) (now (ot .exit)) (now (rs .exit))) (now (orders .exit)) ≡ change (leaves (u .0)) h (tables (now (iv .entry)) (now (it .entry)) (now (ov .entry)) (now (ot .entry)) (now (rs .entry))) (now (orders .entry)) ⌝ }
+{
+    change(h, iv, it, ov, ot, rs, orders, Request::Leave(u))
 }

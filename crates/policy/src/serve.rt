@@ -20,6 +20,7 @@ use sets::Users;
 use sound::Checked;
 use sound::check;
 ghost use mathlib.Core.Path.{_≡_};
+ghost use mathlib.Core.Logic.{_≢_};
 ghost use mathlib.Core.Option.{none};
 ghost use Prim.Native.Nat.{_+_, _*_, _≤_, _<_};
 ghost use lib.ListN.{length};
@@ -48,7 +49,7 @@ pub enum Asks {
 
 // A request of two numbers, each of 16 bits: kinds 2 to 4.
 fn pair_asks(kind: u64, a: u16, b: u16) -> Asks
-    requires { ⌜ 2 ≤ kind ⌝ }
+    requires { ⌜ (2 ≤ kind) × (kind ≢ 5) ⌝ }
     ensures { λ q. ⌜ askedOf q ≡ asked kind a b ⌝ }
 {
     if kind == 2 {
@@ -63,7 +64,7 @@ fn pair_asks(kind: u64, a: u16, b: u16) -> Asks
     Asks::Nothing
 }
 
-// What a row asks: 0 join; 1 insert; 2 grant; 3 revoke; 4 open.
+// What a row asks: 0 join; 1 insert; 2 grant; 3 revoke; 4 open; 5 leave, whatever b is.
 fn row_asks(kind: u64, a: u64, b: u64) -> Asks
     ensures { λ q. ⌜ askedOf q ≡ narrow (asked kind a b) ⌝ }
 {
@@ -76,7 +77,14 @@ fn row_asks(kind: u64, a: u64, b: u64) -> Asks
         }
         return Asks::Nothing;
     }
-    if a > 65535 || b > 65535 {
+    if a > 65535 {
+        return Asks::Nothing;
+    }
+    if kind == 5 {
+        let u = a as u16;
+        return Asks::Change(Request::Leave(User(u)));
+    }
+    if b > 65535 {
         return Asks::Nothing;
     }
     pair_asks(kind, a as u16, b as u16)

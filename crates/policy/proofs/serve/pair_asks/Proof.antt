@@ -17,7 +17,7 @@ unfolding asked
 returns-3 c = rw (c .if3 .taken)
 
 returns-4 : tie.Need-returns-4
-returns-4 c = asked-past _ _ _ (c .before .before .before .pre) (c .before .before .if1 .left) (c .before .if2 .left) (c .if3 .left)
+returns-4 c = asked-past _ _ _ (c .before .before .before .pre .0) (c .before .before .before .pre .1) (c .before .before .if1 .left) (c .before .if2 .left) (c .if3 .left)
 
 pub pair-asks-spec : {M : Type 1} → statement M
 pair-asks-spec = tie.close (tie.spec returns returns-2 returns-3 returns-4)

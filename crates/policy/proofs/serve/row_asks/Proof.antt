@@ -1,14 +1,13 @@
 -- `policy::serve::row_asks` meets its contract. Assumes nothing.
 use Prim.Native.Nat.{ℕ, _≤_}
 use mathlib.Core.Path.{ap}
-use mathlib.Core.Logic.{⊎-elim, inl, inr}
 use native.Mathlib.Omega.{arith}
 use borrow.Author.Needs.{needs}
-use borrow.Author.Tests.{ltb-true, ltb-false, ne-eqb}
+use borrow.Author.Tests.{ne-eqb}
 use Rattle.rules.specs.Refusals.{inserts}
 use Rattle.rules.specs.Calls.{changes, asked}
 use Rattle.policy.specs.Serve.{narrow}
-use Rattle.policy.proofs.AskedLaws.{row-pair, row-wide}
+use Rattle.policy.proofs.AskedLaws.{row-leave, row-pair, row-wide, row-wide-second}
 use Rattle.policy.proofs.serve.row_asks.Statement.{statement}
 use Rattle.policy.proofs.serve.row_asks.Tie as tie
 
@@ -32,7 +31,16 @@ unfolding narrow asked
 returns-3 c = rw (c .before .if2 .taken, ne-eqb _ _ (c .if3 .left))
 
 returns-4 : tie.Need-returns-4
-returns-4 c = row-wide _ _ _ (above (c .before)) (⊎-elim (λ w. inl (w .taken)) (λ w. inr (ltb-true _ _ (w .1 .taken))) (c .if4 .came))
+returns-4 c = row-wide _ _ _ (above (c .before)) (c .if4 .taken)
+
+cast-u : tie.Need-cast-u
+cast-u c = search needs
+
+returns-5 : tie.Need-returns-5
+returns-5 c = rw (c .if5 .taken) (row-leave _ _ (omega arith))
+
+returns-6 : tie.Need-returns-6
+returns-6 c = row-wide-second _ _ _ (above (c .before .before .before)) (c .before .if5 .left) (c .if6 .taken)
 
 cast-pair-asks : tie.Need-cast-pair-asks
 cast-pair-asks c = search needs
@@ -41,13 +49,12 @@ cast-pair-asks-2 : tie.Need-cast-pair-asks-2
 cast-pair-asks-2 c = search needs
 
 pair-asks-requires : tie.Need-pair-asks-requires
-pair-asks-requires c κs = above (c .before .before)
+pair-asks-requires c κs = (above (c .before .before .before), c .before .if5 .left)
 
-returns-5 : tie.Need-returns-5
-returns-5 c =
-    let a = c .before .before .before .before .before .args in
-    row-pair (a .kind) (a .a) (a .b) (above (c .before .before .before)) (omega arith) (omega (arith, ltb-false 65535 (a .b) (c .before .if5 .left)))
-    (c .pair-asks .ensures)
+returns-7 : tie.Need-returns-7
+returns-7 c =
+    let a = c .before .before .before .before .before .before .args in
+    row-pair (a .kind) (a .a) (a .b) (above (c .before .before .before .before)) (c .before .before .if5 .left) (omega arith) (omega arith) (c .pair-asks .ensures)
 
 pub row-asks-spec : {M : Type 1} → statement M
 row-asks-spec =
@@ -58,7 +65,10 @@ row-asks-spec =
     returns-2
     returns-3
     returns-4
+    cast-u
+    returns-5
+    returns-6
     cast-pair-asks
     cast-pair-asks-2
     pair-asks-requires
-    returns-5)
+    returns-7)
