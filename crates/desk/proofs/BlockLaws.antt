@@ -20,7 +20,7 @@ use Rattle.rules.specs.Sound.{sound}
 use Rattle.rules.specs.Holders.{view}
 use Rattle.rules.specs.Requests as requests
 use Rattle.rules.specs.Bytes.{Tables, bookIn}
-use Rattle.rules.specs.Refusals.{Request, joins, inserts, grants, revokes, verdict, noSuch, work, own, limits, refusal, refusalOpen, opened, number, viewNumber, viewTold}
+use Rattle.rules.specs.Refusals.{Request, joins, inserts, grants, revokes, leaves, verdict, noSuch, work, own, limits, refusal, refusalOpen, opened, number, viewNumber, viewTold}
 use Rattle.rules.specs.Runs.{keep, bookOf}
 use Rattle.rules.specs.Calls.{orderRows, chainRows, rowsLent, Change, change, changeBy, Asked, changes, opens, nothing, asked, askedIn, One, one, changeOne, openOne, refusedOne, All, all, Service, serving, serveBy, refusalServe, serveCall}
 use Rattle.rules.specs.declared.Head.{Head}
@@ -30,11 +30,11 @@ use Rattle.rules.specs.declared.View.{View}
 use Rattle.rules.specs.declared.View.the-variants as views
 use Rattle.rules.specs.declared.Refusal.{Refusal}
 use Rattle.rules.specs.declared.Refusal.the-variants.{NoSuch, Closed, ShortList}
-use Rattle.theorems.proofs.RequestLaws.{Rows, verdict-none, verdict-append, verdict-passed, verdict-first, common-passed, work-sound}
-use Rattle.theorems.proofs.ListLaws.{length-tabulate}
+use Rattle.theorems.proofs.RequestLaws.{Rows, verdict-none, verdict-passed, verdict-first, common-passed, accepted, work-sound}
+use Rattle.theorems.proofs.ListLaws.{length-tabulate, every-append}
 use Rattle.theorems.proofs.ViewLaws.{view-open}
 use Rattle.theorems.proofs.OpensLaws.{opens-list}
-use Rattle.theorems.proofs.OrderLaws.{mostRows, rows-enough, open-rows}
+use Rattle.theorems.proofs.OrderLaws.{mostRows, allowed-rows, rows-enough, open-rows}
 use Rattle.theorems.proofs.CallLaws.{all-leads}
 use Rattle.theorems.proofs.ServeLaws.{Ready, ready-one, ready-refusal, ready-open, ownOrders, each, one-gives, all-serves, length-orders, length-chains}
 use Rattle.theorems.proofs.ByteLaws.{sound-book-laid}
@@ -42,7 +42,7 @@ use Rattle.plan.specs.Judge as plan
 use Rattle.lines.specs.Answer.{answerText}
 use Rattle.lines.specs.Program.{Told, refused, changeTold, openTold, answerTo}
 use Rattle.desk.specs.Block.{mostOf, mostIn, Enough, Answered}
-use Rattle.desk.specs.Output.{counts, neverTen, neverMore}
+use Rattle.desk.specs.Output.{counts, neverTen, neverMore, mostOrders}
 
 -- ---- the most rows of what is asked
 
@@ -66,13 +66,15 @@ most-asked (suc zero) a b = go (eqb b 0)
 most-asked (suc (suc zero)) a b = omega arith
 most-asked (suc (suc (suc zero))) a b = omega arith
 most-asked (suc (suc (suc (suc zero)))) a b = omega arith
-most-asked (suc (suc (suc (suc (suc k))))) a b = omega arith
+most-asked (suc (suc (suc (suc (suc zero))))) a b = omega arith
+most-asked (suc (suc (suc (suc (suc (suc k)))))) a b = omega arith
 
-most-few : (q : Asked) → mostAsked q ≤ 385
+most-few : (q : Asked) → mostAsked q ≤ mostOrders
 most-few (changes joins) = omega arith
 most-few (changes (inserts l)) = omega arith
 most-few (changes (grants r u)) = omega arith
 most-few (changes (revokes r u)) = omega arith
+most-few (changes (leaves u)) = omega arith
 most-few (opens u r) = omega arith
 most-few nothing = omega arith
 
@@ -141,10 +143,12 @@ own-past joins b = refl
 own-past (inserts l) b = refl
 own-past (grants r u) b = refl
 own-past (revokes r u) b = refl
+own-past (leaves u) b = refl
 
-limits-past : (room : ℕ) (d : requests.Done) → length (d .orders) ≤ room → every past (limits room d) ≡ true
+-- with as many rows lent as there are orders
+limits-past : (d : requests.Done) → every past (limits (length (d .orders)) d) ≡ true
 unfolding every past limits
-limits-past room d h = rw (le-ltb room (length (d .orders)) h)
+limits-past d = rw (le-ltb (length (d .orders)) (length (d .orders)) (omega arith))
 
 -- ---- one request
 
@@ -194,21 +198,8 @@ module _ (h : Head) (t : Tables) (list : List ℕ) (k : Ready (keep h t)) where
   unfolding bookOf
   refusal-own q = ready-refusal (keep h t) room q k
 
-  change-never : (q : Request) → mostRows q ≤ room → {r : Refusal} → refusal t b room q ≡ some r → number r ≡ 10 → ⊥
-  change-never q m {r} e = go (verdict (own q b)) refl
-    where
-      told : verdict (own q b ++ limits room (work q b)) ≡ some r
-      told = sym (refusal-own q) ∙ e
-
-      go : (z : Option Refusal) → verdict (own q b) ≡ z → number r ≡ 10 → ⊥
-      go (some x) f = not-ten (own q b) (own-past q b) (let g = verdict-first (own q b) (limits room (work q b)) f in f ∙ sym g ∙ told)
-      go none f =
-          not-ten (limits room (work q b)) (limits-past room (work q b) (omega (arith, rows-enough q b sound-book f)))
-          (sym (verdict-passed (own q b) (limits room (work q b)) f) ∙ told)
-
   -- enough order rows are as good as those that the request gives
   change-enough : (q : Request) → mostRows q ≤ room → refusal t b room q ≡ verdict (own q b ++ limits (length (work q b .orders)) (work q b))
-  unfolding limits
   change-enough q m = refusal-own q ∙ go (verdict (own q b)) refl
     where
       d : requests.Done
@@ -219,10 +210,12 @@ module _ (h : Head) (t : Tables) (list : List ℕ) (k : Ready (keep h t)) where
 
       go : (z : Option Refusal) → verdict (own q b) ≡ z → verdict (own q b ++ limits room d) ≡ verdict (own q b ++ limits n d)
       go (some r) f = verdict-first (own q b) (limits room d) f ∙ sym (verdict-first (own q b) (limits n d) f)
-      go none f =
-          let long : ltb room n ≡ ltb n n = le-ltb room n (omega (arith, rows-enough q b sound-book f)) ∙ sym (le-ltb n n (omega arith)) in
-          let rows : limits room d ≡ limits n d = rw long in
-          verdict-passed (own q b) (limits room d) f ∙ (ap verdict rows ∙ sym (verdict-passed (own q b) (limits n d) f))
+      go none f = verdict-passed (own q b) (limits room d) f ∙ (rows-enough q b sound-book f room m ∙ sym (verdict-passed (own q b) (limits n d) f))
+
+  change-never : (q : Request) → mostRows q ≤ room → {r : Refusal} → refusal t b room q ≡ some r → number r ≡ 10 → ⊥
+  change-never q m e =
+      let rows : Rows = limits (length (work q b .orders)) (work q b) in
+      not-ten (own q b ++ rows) (every-append past (own q b) rows (own-past q b) (limits-past (work q b))) (sym (change-enough q m) ∙ e)
 
   change-roomy : (q : Request) → mostRows q ≤ room → Roomy (mostRows q) (answerTo (changes q) b) (one (changes q) h t list)
   unfolding one change changeBy changeOne answerTo changeTold
@@ -240,13 +233,13 @@ module _ (h : Head) (t : Tables) (list : List ℕ) (k : Ready (keep h t)) where
       go : (z : Option Refusal) → refusal t b room q ≡ z → refusal t b room q ≡ v → Roomy (mostRows q) (changeTold v d b) (changeOne (c z .answer) h (c z .tables) (c z .orders))
       go (some r) e f = refused-roomy (mostRows q) r h t list (change-never q m e) (ap (λ (z : Option Refusal). changeTold z d b) (sym f ∙ e))
       go none e f =
-          let (x, y) = verdict-append (own q b) (limits room d) (sym (refusal-own q) ∙ e) in
+          let k′ = accepted t b room q e in
           let is : changeTold v d b ≡ changeTold none d b = ap (λ (z : Option Refusal). changeTold z d b) (sym f ∙ e) in
           record {
             number′ = 0;
             view′ = 0;
             row = refl;
-            few = rows-enough q b sound-book x;
+            few = allowed-rows q b sound-book (k′ .allowed) (k′ .fits .outerTokens≤);
             never = λ n. omega arith;
             text = ap (λ (x : List ℕ). answerText 0 0 x) (rows-counted (length (d .orders) * 3) (orderRows (d .orders)) list (length-orders (d .orders))) ∙ sym (ap (λ (x : Told). x .text) is);
             book = sound-book-laid (d .book) t (work-sound t b room q e) ∙ sym (ap (λ (x : Told). x .book) is);
@@ -370,7 +363,7 @@ all-roomy (q ∷ qs) h t list k m =
       counted = ap (λ (x : List ℕ). counts (x ++ rest)) (r .row) ∙ ap (λ (n : ℕ). o .count + n) (i .counted);
       long = ap (λ (x : List ℕ). length (x ++ rest)) (r .row) ∙ omega (arith, i .long);
       never = ap (λ (x : List ℕ). neverTen (x ++ rest)) (r .row) ∙ rw (ne-eqb (r .number′) 10 (r .never)) (i .never);
-      short = ap (λ (x : List ℕ). neverMore (x ++ rest)) (r .row) ∙ rw (le-leb (o .count) 385 (omega (arith, r .few, most-few q))) (i .short);
+      short = ap (λ (x : List ℕ). neverMore (x ++ rest)) (r .row) ∙ rw (le-leb (o .count) mostOrders (omega (arith, r .few, most-few q))) (i .short);
     }
 
 -- ---- the call

@@ -1,11 +1,12 @@
 -- What the parts of a turn promise adds up to what the turn promises.
 -- Assumes nothing.
-use Prim.Native.Nat.{ℕ, zero, suc, _+_, _*_}
+use Prim.Native.Nat.{ℕ, zero, suc, _+_, _*_, _-_}
 use mathlib.Core.Path.{_≡_, refl, sym, ap, ap₂, subst, _∙_}
 use mathlib.Core.Bool.{Bool, true, false, _&&_, not, true≢false}
 use mathlib.Core.List.{List, [], _∷_, _++_, append-assoc}
 use native.Mathlib.Omega.{arith}
 use lib.ListN.{length, take, drop, length-append}
+use borrow.Author.Tests.{le-leb}
 use Rattle.rows.specs.Number.{joined}
 use Rattle.rules.specs.Book.{Book, emptyBook}
 use Rattle.rules.specs.Bytes.{Tables, bookIn, headOf}
@@ -20,7 +21,7 @@ use Rattle.lines.proofs.ProgramLaws.{behind, closed-taken, long-asks, long-firs
 use Rattle.rules.specs.Runs.{bookOf}
 use Rattle.theorems.proofs.RunLaws.{fresh, fresh-book}
 use Rattle.desk.specs.Input.{between, start, pending, Whole, Comes, noLine, lacksLine, Unless, More, Got, ReadSoFar, FirstRead, modeTaken}
-use Rattle.desk.specs.Block.{numbersOf, rowFor, rowsOf, lineCount, Takes, Reads, rowsAnswers, rowsLeave, Answers}
+use Rattle.desk.specs.Block.{numbersOf, rowFor, mostOf, rowsOf, lineCount, Takes, Reads, rowsAnswers, rowsLeave, Answers}
 use Rattle.desk.specs.Output.{filledTo, failedIn, Gathers}
 use Rattle.desk.specs.Turn.{Printing, Desk, desk, still, Begins, Follows, stays, reads, Finished, Goes, Run, rests, Ran, Runs, Awaits}
 use Rattle.desk.specs.declared.State.{State}
@@ -30,6 +31,7 @@ use Rattle.desk.specs.declared.input.Taken.{Taken}
 use Rattle.desk.specs.declared.output.Printed.{Printed}
 use Rattle.desk.specs.declared.output.Printed.the-variants.{To, Failed}
 use Rattle.desk.proofs.AnswerLaws.{lines-rows, lines-leave}
+use Rattle.desk.proofs.Laws.{most-fits}
 use Rattle.desk.proofs.PendingLaws.{start-long, start-none, start-off, pending-lines, pending-taken, whole-taken, take-behind, none-left, unless-not}
 use Rattle.desk.proofs.ProgramLaws.{run-then, program-by-turns}
 
@@ -90,7 +92,10 @@ cut-rows false (l ∷ ls) = ap (λ (x : List ℕ). numbersOf (rowFor false (line
 pub takes-none : (cut : Bool) (from : ℕ) (ls : List (List ℕ)) {rows : List ℕ} {from′ : ℕ} {cut′ : Bool} → Takes 128 6144 cut from ls 0 rows from′ cut′ → ls ≡ []
 unfolding lineCount
 takes-none cut from [] t = refl
-takes-none cut from (l ∷ ls) t = absurd (omega (arith, t .count≡))
+takes-none cut from (l ∷ ls) t =
+    let k : ℕ = rowFor cut (lineAsks l) .kind in
+    let some : 0 ≡ suc (lineCount 127 (6144 - mostOf k) false ls) = t .count≡ ∙ rw (le-leb (mostOf k) 6144 (most-fits k)) in
+    absurd (omega arith)
 
 takes-some : (cut : Bool) (from : ℕ) (ls : List (List ℕ)) {n : ℕ} {rows : List ℕ} {from′ : ℕ} {cut′ : Bool} → Takes 128 6144 cut from ls n rows from′ cut′ → ls ≡ [] → n ≡ 0
 unfolding lineCount

@@ -78,14 +78,26 @@ module _ (cut : Bool) (l : Line) where
 
 -- ---- the most order rows
 
-pub most-other : (k : ℕ) → 5 ≤ k → mostOf k ≡ 0
+pub most-other : (k : ℕ) → 6 ≤ k → mostOf k ≡ 0
 unfolding mostOf
 most-other zero h = absurd (omega arith)
 most-other (suc zero) h = absurd (omega arith)
 most-other (suc (suc zero)) h = absurd (omega arith)
 most-other (suc (suc (suc zero))) h = absurd (omega arith)
 most-other (suc (suc (suc (suc zero)))) h = absurd (omega arith)
-most-other (suc (suc (suc (suc (suc k))))) h = refl
+most-other (suc (suc (suc (suc (suc zero))))) h = absurd (omega arith)
+most-other (suc (suc (suc (suc (suc (suc k)))))) h = refl
+
+-- the order list is long enough for any one of them
+pub most-fits : (k : ℕ) → mostOf k ≤ 6144
+unfolding mostOf
+most-fits zero = omega arith
+most-fits (suc zero) = omega arith
+most-fits (suc (suc zero)) = omega arith
+most-fits (suc (suc (suc zero))) = omega arith
+most-fits (suc (suc (suc (suc zero)))) = omega arith
+most-fits (suc (suc (suc (suc (suc zero))))) = omega arith
+most-fits (suc (suc (suc (suc (suc (suc k)))))) = omega arith
 
 pub most-none : 6144 + mostIn [] ≤ 6144
 unfolding mostIn

@@ -6,7 +6,7 @@ use mathlib.Core.Bool.{Bool, true, false, cond}
 use mathlib.Core.List.{List, [], _∷_, _++_, append-assoc, append-nil}
 use native.Mathlib.Numerals.{add-one}
 use native.Mathlib.Omega.{arith}
-use lib.Dec.{eqb, ltb}
+use lib.Dec.{eqb, leb, ltb}
 use lib.ListN.{length, take, drop, getD, set, length-drop}
 use lib.Seq.{take-nil, take-take, take-suc, drop-drop, getD-drop, length-take-le}
 use borrow.Author.Tests.{le-leb, lt-leb, ne-eqb}
@@ -80,20 +80,23 @@ module _ (input : List ℕ) (from to k : ℕ) (o : from ≤ to) (i : to ≤ leng
 
 -- ---- the lines taken
 
--- it stops where no row is left, where the order rows may not be enough, or where no line is left
+-- it stops where no row is left, where the order rows may not be enough for the next line, or where no line is left
 module _ (room : ℕ) (cut : Bool) (from : ℕ) where
   pub stop-full : {n : ℕ} → n ≡ 0 → (ls : List (List ℕ)) → Takes n room cut from ls 0 [] from cut
   unfolding lineCount rowsOf span
   stop-full e ls = rw e (record { count≡ = refl; rows≡ = refl; from≡ = omega arith; cut≡ = refl })
 
-  pub stop-room : (n : ℕ) → room < 385 → (ls : List (List ℕ)) → Takes n room cut from ls 0 [] from cut
+  pub stop-room : (n : ℕ) {l : List ℕ} {ls ls′ : List (List ℕ)} {q : Asked} {most : ℕ} → ls ≡ l ∷ ls′ → q ≡ rowFor cut (lineAsks l) → most ≡ mostOf (q .kind) → room < most
+      → Takes n room cut from ls 0 [] from cut
   unfolding lineCount rowsOf span
-  stop-room n h ls = record { count≡ = go n ls; rows≡ = refl; from≡ = omega arith; cut≡ = refl }
+  stop-room n {l} {ls} {ls′} {q} {most} e asks m h = rw e (record { count≡ = go n; rows≡ = refl; from≡ = omega arith; cut≡ = refl })
     where
-      go : (n : ℕ) (ls : List (List ℕ)) → 0 ≡ lineCount n room cut ls
-      go zero ls = refl
-      go (suc n) [] = refl
-      go (suc n) (l ∷ ls) = rw (lt-leb 385 room h)
+      less : room < mostOf (rowFor cut (lineAsks l) .kind)
+      less = subst (λ (x : ℕ). room < x) (m ∙ ap (λ (x : Asked). mostOf (x .kind)) asks) h
+
+      go : (n : ℕ) → 0 ≡ lineCount n room cut (l ∷ ls′)
+      go zero = refl
+      go (suc n) = rw (lt-leb (mostOf (rowFor cut (lineAsks l) .kind)) room less)
 
   pub stop-lines : (n : ℕ) {ls : List (List ℕ)} → ls ≡ [] → Takes n room cut from ls 0 [] from cut
   unfolding lineCount rowsOf span
@@ -104,13 +107,14 @@ module _ (room : ℕ) (cut : Bool) (from : ℕ) where
       go (suc n) = refl
 
 -- one line more, in front of those that follow
-takes-more : (m room : ℕ) (cut : Bool) (from : ℕ) (l : List ℕ) (ls : List (List ℕ)) (q : Asked) → 385 ≤ room → q ≡ rowFor cut (lineAsks l)
+takes-more : (m room : ℕ) (cut : Bool) (from : ℕ) (l : List ℕ) (ls : List (List ℕ)) (q : Asked) → mostOf (q .kind) ≤ room → q ≡ rowFor cut (lineAsks l)
     → {k f : ℕ} {rows : List ℕ} {c : Bool} → Takes m (room - mostOf (q .kind)) false (from + length l + 1) ls k rows f c
     → Takes (suc m) room cut from (l ∷ ls) (suc k) (numbersOf q ++ rows) f c
 unfolding lineCount rowsOf span
 takes-more m room cut from l ls q h e {k} {f} {rows} {c} t =
     record {
-      count≡ = rw (le-leb 385 room h) (ap suc (t .count≡ ∙ ap (λ (x : Asked). lineCount m (room - mostOf (x .kind)) false ls) e));
+      count≡ = ap suc (t .count≡) ∙ (sym (ap (λ (z : Bool). cond z (suc (lineCount m (room - mostOf (q .kind)) false ls)) 0) (le-leb (mostOf (q .kind)) room h))
+          ∙ ap (λ (x : Asked). cond (leb (mostOf (x .kind)) room) (suc (lineCount m (room - mostOf (x .kind)) false ls)) 0) e);
       rows≡ = ap₂ (λ (x : Asked) (r : List ℕ). numbersOf x ++ r) e (t .rows≡);
       from≡ = omega (arith, t .from≡);
       cut≡ = rw (ne-eqb (suc k) 0 (λ z. omega arith)) (t .cut≡ ∙ same (eqb k 0));
@@ -141,15 +145,15 @@ module _ (cut₀ : Bool) (from₀ : ℕ) (ls₀ : List (List ℕ)) (rows room : 
       (subst (λ (x : ℕ). Takes 128 6144 cut₀ from₀ ls₀ x (take (rows * 3) requests ++ []) from cut) n (g 0 [] from cut t))
 
   -- one line more
-  pub goes-more : rows < 128 → 385 ≤ room → rows * 3 + 3 ≤ length requests → {l : List ℕ} {ls′ : List (List ℕ)} {q : Asked} {now : List ℕ} {width end : ℕ}
-      → ls ≡ l ∷ ls′ → q ≡ rowFor cut (lineAsks l) → now ≡ stored (rows * 3) (numbersOf q) requests → width ≡ mostOf (q .kind) → end ≡ from + length l + 1
+  pub goes-more : rows < 128 → rows * 3 + 3 ≤ length requests → {l : List ℕ} {ls′ : List (List ℕ)} {q : Asked} {now : List ℕ} {width end : ℕ}
+      → ls ≡ l ∷ ls′ → q ≡ rowFor cut (lineAsks l) → now ≡ stored (rows * 3) (numbersOf q) requests → width ≡ mostOf (q .kind) → width ≤ room → end ≡ from + length l + 1
       → Goes cut₀ from₀ ls₀ (rows + 1) (room - width) false end ls′ now
-  goes-more a b r {l} {ls′} {q} {now} {width} {end} e asks n w d k more f c t =
+  goes-more a r {l} {ls′} {q} {now} {width} {end} e asks n w b d k more f c t =
       let left : 128 - rows ≡ suc (128 - (rows + 1)) = omega arith in
       let t′ : Takes (128 - (rows + 1)) (room - mostOf (q .kind)) false (from + length l + 1) ls′ k more f c =
       subst (λ (x : ℕ). Takes (128 - (rows + 1)) (room - x) false (from + length l + 1) ls′ k more f c) w
       (subst (λ (x : ℕ). Takes (128 - (rows + 1)) (room - width) false x ls′ k more f c) d t) in
-      let next : Takes (128 - rows) room cut from ls (suc k) (numbersOf q ++ more) f c = rw (left, e) (takes-more (128 - (rows + 1)) room cut from l ls′ q b asks t′) in
+      let next : Takes (128 - rows) room cut from ls (suc k) (numbersOf q ++ more) f c = rw (left, e) (takes-more (128 - (rows + 1)) room cut from l ls′ q (subst (λ (x : ℕ). x ≤ room) w b) asks t′) in
       let whole = g (suc k) (numbersOf q ++ more) f c next in
       let count : rows + suc k ≡ rows + 1 + k = omega arith in
       let width′ : (rows + 1) * 3 ≡ rows * 3 + 3 = omega arith in

@@ -16,7 +16,7 @@ use Rattle.lines.specs.Answer.{answerText, roomFor, writing, Written, putAnswer
 use Rattle.lines.specs.declared.answer.Put.{Put}
 use Rattle.lines.specs.declared.answer.Put.the-variants as put
 use Rattle.lines.proofs.Passed.{next}
-use Rattle.desk.specs.Output.{neverMore, longest, told, Gathering, gathering, printAnswer, texts, Gathered}
+use Rattle.desk.specs.Output.{neverMore, longest, told, Gathering, gathering, printAnswer, texts, Gathered, mostOrders}
 use Rattle.desk.specs.declared.output.Printed.{Printed}
 use Rattle.desk.specs.declared.output.Printed.the-variants.{To, Failed}
 use Rattle.desk.proofs.Laws.{row-next}
@@ -205,18 +205,18 @@ module _ (requests answers orders : List ℕ) (at used : ℕ) where
 -- ---- the longest answer
 
 module _ (answers : List ℕ) (at : ℕ) (h : at + 3 ≤ length answers) (f : neverMore (drop at answers) ≡ true) where
-  few-all : leb (getD answers (at + 2) 0) 385 && neverMore (drop (at + 3) answers) ≡ true
+  few-all : leb (getD answers (at + 2) 0) mostOrders && neverMore (drop (at + 3) answers) ≡ true
   unfolding neverMore
   few-all = sym (ap neverMore (row-next answers at h)) ∙ f
 
-  pub few-next : getD answers (at + 2) 0 ≤ 385
-  few-next = leb-true (getD answers (at + 2) 0) 385 (both (leb (getD answers (at + 2) 0) 385) (neverMore (drop (at + 3) answers)) few-all .0)
+  pub few-next : getD answers (at + 2) 0 ≤ mostOrders
+  few-next = leb-true (getD answers (at + 2) 0) mostOrders (both (leb (getD answers (at + 2) 0) mostOrders) (neverMore (drop (at + 3) answers)) few-all .0)
 
   pub few-rest : neverMore (drop (at + 3) answers) ≡ true
-  few-rest = both (leb (getD answers (at + 2) 0) 385) (neverMore (drop (at + 3) answers)) few-all .1
+  few-rest = both (leb (getD answers (at + 2) 0) mostOrders) (neverMore (drop (at + 3) answers)) few-all .1
 
 -- has room at the front
-pub room-front : (c used : ℕ) (orders out : List ℕ) → c ≤ 385 → longest ≤ length out → roomFor (take (used + c * 3 - used) (drop used orders)) 0 out ≡ true
+pub room-front : (c used : ℕ) (orders out : List ℕ) → c ≤ mostOrders → longest ≤ length out → roomFor (take (used + c * 3 - used) (drop used orders)) 0 out ≡ true
 unfolding roomFor
 room-front c used orders out f l =
     let rows : List ℕ = take (used + c * 3 - used) (drop used orders) in

@@ -12,7 +12,7 @@ use Rattle.rules.specs.declared.Served.{Served}
 use Rattle.rules.specs.declared.Served.the-variants.{Done, No}
 use Rattle.plan.specs.Judge.{Ready}
 use Rattle.desk.specs.Input.{between}
-use Rattle.desk.specs.Output.{counts, neverTen, neverMore}
+use Rattle.desk.specs.Output.{mostOrders, counts, neverTen, neverMore}
 use Rattle.desk.specs.declared.block.Block.{Block}
 use Rattle.desk.specs.declared.input.Unread.{Unread}
 use Rattle.lines.specs.Request.{asking, lineAsks}
@@ -37,14 +37,15 @@ rowFor false l = rowOf l
 abbrev pub numbersOf : Asked → List ℕ
 numbersOf q = q .kind ∷ q .a ∷ q .b ∷ []
 
--- the most order rows of a request of a kind: join, insert, grant, revoke, open; a row of any other kind is refused
+-- the most order rows of a request of a kind: join, insert, grant, revoke, open, leave; a row of any other kind is refused
 unfoldable pub mostOf : ℕ → ℕ
 mostOf zero = 2
 mostOf (suc zero) = 132
 mostOf (suc (suc zero)) = 385
 mostOf (suc (suc (suc zero))) = 65
 mostOf (suc (suc (suc (suc zero)))) = 126
-mostOf (suc (suc (suc (suc (suc k))))) = 0
+mostOf (suc (suc (suc (suc (suc zero))))) = mostOrders
+mostOf (suc (suc (suc (suc (suc (suc k)))))) = 0
 
 -- of request rows
 unfoldable pub mostIn : List ℕ → ℕ
@@ -60,13 +61,14 @@ unfoldable pub rowsOf : Bool → List (List ℕ) → List ℕ
 rowsOf cut [] = []
 rowsOf cut (l ∷ ls) = numbersOf (rowFor cut (lineAsks l)) ++ rowsOf false ls
 
--- how many of the lines: to the last of them, unless n rows are filled or fewer order rows are left than a request may need
+-- how many of the lines: to the last of them, unless n rows are filled or the next may need more order rows than are left
 unfoldable pub lineCount : ℕ → ℕ → Bool → List (List ℕ) → ℕ
 lineCount zero room cut ls = 0
 lineCount (suc n) room cut [] = 0
 lineCount (suc n) room cut (l ∷ ls) =
-    let more = suc (lineCount n (room - mostOf (rowFor cut (lineAsks l) .kind)) false ls) in
-    cond (leb 385 room) more 0
+    let most = mostOf (rowFor cut (lineAsks l) .kind) in
+    let more = suc (lineCount n (room - most) false ls) in
+    cond (leb most room) more 0
 
 -- with n rows and `room` order rows, of lines whose bytes begin at `from`: how many were taken, their rows, where the rest begins, and its `cut`
 pub record Takes (n room : ℕ) (cut : Bool) (from : ℕ) (ls : List (List ℕ)) (count : ℕ) (rows : List ℕ) (from′ : ℕ) (cut′ : Bool) : Type 0 where

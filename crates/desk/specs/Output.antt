@@ -36,16 +36,20 @@ neverTen (n ∷ []) = true
 neverTen (n ∷ v ∷ []) = true
 neverTen (n ∷ v ∷ c ∷ rows) = not (eqb n 10) && neverTen rows
 
--- none of them counts more order rows than a grant may give, the most of any request
+-- the most order rows of any request, a leave's
+abbrev pub mostOrders : ℕ
+mostOrders = 4608
+
+-- none of them counts more order rows than a leave may give, the most of any request
 unfoldable pub neverMore : List ℕ → Bool
 neverMore [] = true
 neverMore (n ∷ []) = true
 neverMore (n ∷ v ∷ []) = true
-neverMore (n ∷ v ∷ c ∷ rows) = leb c 385 && neverMore rows
+neverMore (n ∷ v ∷ c ∷ rows) = leb c mostOrders && neverMore rows
 
 -- the room that is asked for with the most rows: in a buffer of so many bytes every answer has room at the front
 abbrev pub longest : ℕ
-longest = 24 + 18 * 385
+longest = 24 + 18 * mostOrders
 
 -- the number that a line is answered with: 14 where its row is that of a malformed line
 unfoldable pub told : ℕ → ℕ → ℕ

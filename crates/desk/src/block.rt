@@ -22,11 +22,11 @@ ghost use Rattle.desk.specs.Block.{rowFor, numbersOf, mostOf, mostIn, Re
 // At most so many lines.
 pub const BLOCK: usize = 128;
 
-// The order list's rows. A block ends where fewer are left than a request may need, so that none finds the list too short.
+// The order list's rows, more than any request needs. A block ends before a request that may need more than are left, so that none finds the list too short.
 pub const ORDERS: usize = 6144;
 
-// The most order rows of any request, a grant's.
-pub const MOST: usize = 385;
+// The most order rows of any request, a leave's.
+pub const MOST: usize = 4608;
 
 // The kind that stands for a malformed line; no request has it, so the call does nothing for its row.
 pub const MALFORMED: u64 = 14;
@@ -34,14 +34,14 @@ pub const MALFORMED: u64 = 14;
 // The most order rows of a request of this kind.
 fn most_rows(kind: u64) -> usize
     ensures { λ r. ⌜ r ≡ mostOf kind ⌝ }
-    ensures { λ r. ⌜ r ≤ 385 ⌝ }
 {
     match kind {
         0 => 2,
         1 => 132,
-        2 => MOST,
+        2 => 385,
         3 => 65,
         4 => 126,
+        5 => MOST,
         _ => 0,
     }
 }
@@ -81,7 +81,7 @@ pub struct Block {
     pub unread: Unread,
 }
 
-// The next whole lines, until the rows or the order rows may not be enough for one more.
+// The next whole lines, until the rows are full or the order rows may not be enough for the next.
 pub fn read_block(input: &[u8], u: Unread, requests: &mut [u64]) -> Block
     requires { ⌜ Within u (now input) ⌝ }
     requires { ⌜ 384 ≤ length (now requests) ⌝ }
@@ -95,13 +95,17 @@ pub fn read_block(input: &[u8], u: Unread, requests: &mut [u64]) -> Block
     let mut cut = u.cut;
     let mut room = ORDERS;
     let mut rows: usize = 0;
-    while rows < BLOCK && room >= MOST {
+    while rows < BLOCK {
         let end = from + line_end(&input[from..to]);
         if end == to {
             break;
         }
         let q = asked(&input[from..end], cut);
-        room -= most_rows(q.kind);
+        let most = most_rows(q.kind);
+        if room < most {
+            break;
+        }
+        room -= most;
         put_request(requests, rows, q);
         rows += 1;
         from = end + 1;

@@ -29,6 +29,7 @@ use rules::OuterTokens;
 use rules::OuterVertices;
 use rules::Resources;
 use rules::Served;
+use sets::Users;
 ghost use mathlib.Core.Bool.{not};
 ghost use mathlib.Core.List.{[]};
 ghost use mathlib.Core.Path.{_≡_};
@@ -55,6 +56,7 @@ fn empty_head(mode: Mode) -> Head
         inner_tokens: InnerTokens::new(0),
         outer_vertices: OuterVertices::new(0),
         outer_tokens: OuterTokens::new(0),
+        leavers: Users::empty(),
     }
 }
 

@@ -69,7 +69,7 @@ pub fn input_bytes() -> [u8; INPUT]
 }
 
 pub fn output_bytes() -> [u8; OUTPUT]
-    ensures { λ r. ⌜ 16384 ≡ length r ⌝ }
+    ensures { λ r. ⌜ 98304 ≡ length r ⌝ }
 {
     [0; OUTPUT]
 }

@@ -14,8 +14,8 @@ ghost use lib.ListN.{length, take};
 ghost use Rattle.lines.specs.Answer.{roomFor};
 ghost use Rattle.desk.specs.Output.{Filled, counts, neverMore, longest, told, Prints, texts, Gathers};
 
-// The buffer's bytes: more than the longest answer has.
-pub const OUTPUT: usize = 16384;
+// The buffer's bytes: more than the longest answer has, that of a leave.
+pub const OUTPUT: usize = 98304;
 
 // How far the buffer is filled; Failed where the output can't be written.
 pub enum Printed {

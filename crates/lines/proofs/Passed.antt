@@ -1,14 +1,14 @@
 -- Loops that go through a list: what they still look for stands in the part that they have not passed. Assumes nothing.
 use Prim.Native.Nat.{ℕ, suc, _+_, _*_, _-_, _^_, _≤_, _<_}
-use mathlib.Core.Path.{_≡_, refl, sym, ap}
+use mathlib.Core.Path.{_≡_, refl, sym, ap, _∙_}
 use mathlib.Core.Bool.{Bool, true, false, _&&_, _||_, not}
 use mathlib.Core.List.{List, [], _∷_}
-use native.Mathlib.Nat.{pow-suc, pow-le-pow-right}
+use native.Mathlib.Nat.{add-zero, pow-suc, pow-le-pow-right}
 use native.Mathlib.Numerals.{add-one}
 use native.Mathlib.Omega.{arith}
 use lib.Dec.{eqb, leb}
 use lib.ListN.{length, take, drop, getD, drop-of-length-le, length-drop}
-use lib.Seq.{drop-cons, take-all}
+use lib.Seq.{drop-cons, getD-drop, take-all}
 use borrow.Author.Tests.{leb-true, lt-leb, le-leb, lt-ltb, le-ltb}
 use Rattle.sets.specs.Sets.{single, union}
 use Rattle.sets.proofs.Laws.{union-assoc, both}
@@ -23,6 +23,9 @@ module _ (xs : List ℕ) (i : ℕ) where
 
   ended : length xs ≤ i → drop i xs ≡ []
   ended h = drop-of-length-le xs h
+
+  pub none-at : length xs ≤ i → getD xs i 0 ≡ 0
+  none-at h = ap (λ (n : ℕ). getD xs n 0) (sym (add-zero i)) ∙ (sym (getD-drop i xs 0 0) ∙ ap (λ (ys : List ℕ). getD ys 0 0) (ended h))
 
   module _ (p : ℕ → Bool) where
     pub some-hit : i < length xs → p (getD xs i 0) ≡ true → some p (drop i xs) ≡ true

@@ -2,84 +2,40 @@
 use Prim.Native.Nat.{ℕ, zero, suc, _+_, _-_, _≤_, _<_}
 use mathlib.Core.Path.{_≡_, refl, sym, ap, _∙_}
 use mathlib.Core.Bool.{Bool, true, false, cond}
-use mathlib.Core.List.{List, [], _∷_, map}
+use mathlib.Core.List.{List, map}
 use mathlib.Core.Option.{some, none}
 use native.Mathlib.Nat.{zero-add}
 use native.Mathlib.Omega.{arith}
-use lib.ListN.{length, take, drop, getD, length-drop}
-use borrow.Author.Tests.{lt-ltb, le-ltb, le-leb, lt-leb}
+use lib.ListN.{length, take, drop, length-drop}
+use borrow.Author.Tests.{le-leb, lt-leb}
 use Rattle.rules.specs.Lists.{first, every}
-use Rattle.lines.specs.Request.{isNumber, value, twice, users, above, asking, joinOf, insertOf, pairOf, rowOf, asksFor, requestOf, lineAsks, kindOf}
+use Rattle.lines.specs.Request.{isNumber, value, exactly, rowOf, asksFor, requestOf, lineAsks, kindOf}
 use Rattle.lines.specs.Reading.{space, behind, Rest, numbersOf}
 use Rattle.lines.specs.declared.request.Line.{Line}
 use Rattle.lines.specs.declared.request.Line.the-variants.{Malformed}
 use Rattle.lines.proofs.Passed.{rest-lent}
 use Rattle.lines.proofs.Pieces.{first-piece, first-within, ends-spaced}
 
--- ---- join
+-- ---- the request of a word and its numbers
 
-module _ (k : ℕ) (ns : List ℕ) (e : k ≡ 0) where
-  pub join-more : (length ns ≡ 0 → ⊥) → rowOf k ns ≡ Malformed
-  unfolding rowOf joinOf
-  join-more h = rw e (go ns h)
-    where
-      go : (ns : List ℕ) → (length ns ≡ 0 → ⊥) → joinOf ns ≡ Malformed
-      go [] h = absurd (h refl)
-      go (n ∷ ns) h = refl
-
-  pub join-alone : length ns ≡ 0 → rowOf k ns ≡ asking k 0 0
-  unfolding rowOf joinOf
-  join-alone h = rw e (go ns h)
-    where
-      go : (ns : List ℕ) → length ns ≡ 0 → joinOf ns ≡ asking 0 0 0
-      go [] h = refl
-      go (n ∷ ns) h = absurd (omega arith)
-
--- ---- insert
-
-module _ (k : ℕ) (ns : List ℕ) (e : k ≡ 1) where
-  pub insert-twice : twice ns ≡ true → rowOf k ns ≡ Malformed
-  unfolding rowOf insertOf
-  insert-twice h = rw (e, h)
-
-  pub insert-once : twice ns ≡ false → rowOf k ns ≡ asking k (users ns) (above ns)
-  unfolding rowOf insertOf
-  insert-once h = rw (e, h)
-
--- ---- grant, revoke, open
-
-pub no-word : (k : ℕ) (ns : List ℕ) → 4 < k → rowOf k ns ≡ Malformed
-unfolding rowOf
-no-word zero ns h = absurd (omega arith)
-no-word (suc zero) ns h = absurd (omega arith)
-no-word (suc (suc k)) ns h = rw (le-ltb k 3 (omega arith))
-
-row-pair : (k : ℕ) (ns : List ℕ) → 1 < k → k ≤ 4 → rowOf k ns ≡ pairOf k ns
+pub row-pair : (k : ℕ) (ns : List ℕ) → 1 < k → k < 5 → exactly 2 k ns ≡ rowOf k ns
 unfolding rowOf
 row-pair zero ns h l = absurd (omega arith)
 row-pair (suc zero) ns h l = absurd (omega arith)
-row-pair (suc (suc k)) ns h l = rw (lt-ltb k 3 (omega arith))
+row-pair (suc (suc zero)) ns h l = refl
+row-pair (suc (suc (suc zero))) ns h l = refl
+row-pair (suc (suc (suc (suc zero)))) ns h l = refl
+row-pair (suc (suc (suc (suc (suc k))))) ns h l = absurd (omega arith)
 
-module _ (k : ℕ) (ns : List ℕ) (h : 1 < k) (l : k ≤ 4) where
-  pub pair-bad : (length ns ≡ 2 → ⊥) → rowOf k ns ≡ Malformed
-  unfolding pairOf
-  pair-bad n = row-pair k ns h l ∙ go ns n
-    where
-      go : (ns : List ℕ) → (length ns ≡ 2 → ⊥) → pairOf k ns ≡ Malformed
-      go [] n = refl
-      go (a ∷ []) n = refl
-      go (a ∷ b ∷ []) n = absurd (n refl)
-      go (a ∷ b ∷ c ∷ ns) n = refl
-
-  pub pair-good : length ns ≡ 2 → rowOf k ns ≡ asking k (getD ns 0 0) (getD ns 1 0)
-  unfolding pairOf
-  pair-good n = row-pair k ns h l ∙ go ns n
-    where
-      go : (ns : List ℕ) → length ns ≡ 2 → pairOf k ns ≡ asking k (getD ns 0 0) (getD ns 1 0)
-      go [] n = absurd (omega arith)
-      go (a ∷ []) n = absurd (omega arith)
-      go (a ∷ b ∷ []) n = refl
-      go (a ∷ b ∷ c ∷ ns) n = absurd (omega arith)
+pub no-word : (k : ℕ) (ns : List ℕ) → 5 < k → rowOf k ns ≡ Malformed
+unfolding rowOf
+no-word zero ns h = absurd (omega arith)
+no-word (suc zero) ns h = absurd (omega arith)
+no-word (suc (suc zero)) ns h = absurd (omega arith)
+no-word (suc (suc (suc zero))) ns h = absurd (omega arith)
+no-word (suc (suc (suc (suc zero)))) ns h = absurd (omega arith)
+no-word (suc (suc (suc (suc (suc zero))))) ns h = absurd (omega arith)
+no-word (suc (suc (suc (suc (suc (suc k)))))) ns h = refl
 
 -- ---- the whole line
 

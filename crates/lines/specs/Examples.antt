@@ -8,7 +8,7 @@ use mathlib.Core.List.{List, [], _∷_, _++_, map}
 use Rattle.rows.specs.Number.{joined}
 use Rattle.rules.specs.Lists.{every, some, first, tabulateFrom, tabulate}
 use Rattle.lines.specs.Text.{bytes}
-use Rattle.lines.specs.Request.{same, digit, shaped, isNumber, valueFrom, value, longer, pieces, words, kindOf, twice, users, above, joinOf, insertOf, pairOf, rowOf, asksFor, requestOf, lineAsks, modes, modeOf, firstLine}
+use Rattle.lines.specs.Request.{same, digit, shaped, isNumber, valueFrom, value, longer, pieces, words, kindOf, twice, users, above, insertOf, exactly, rowOf, asksFor, requestOf, lineAsks, modes, modeOf, firstLine}
 use Rattle.lines.specs.Answer.{digitsIn, digits, numeral, ofOpen, rowText, rowsText, okText, noText, answerText}
 use Rattle.lines.specs.declared.request.Line.{Line}
 use Rattle.lines.specs.declared.request.Line.the-variants as line
@@ -55,6 +55,9 @@ lines =
     ∷ (asks "grant 0 2", 2 ∷ 0 ∷ 2 ∷ [])
     ∷ (asks "revoke 65536 0", 3 ∷ 65536 ∷ 0 ∷ [])
     ∷ (asks "open 1 0", 4 ∷ 1 ∷ 0 ∷ [])
+    ∷ (asks "leave 0", 5 ∷ 0 ∷ 0 ∷ [])
+    ∷ (asks "leave 64", 5 ∷ 64 ∷ 0 ∷ [])
+    ∷ (asks "leave 99999", 5 ∷ 99999 ∷ 0 ∷ [])
     ∷ (asks "", malformed)
     ∷ (asks " ", malformed)
     ∷ (asks " join", malformed)
@@ -81,6 +84,13 @@ lines =
     ∷ (asks "grant -0 1", malformed)
     ∷ (asks "grant 1.0 1", malformed)
     ∷ (asks "open 1 000001", malformed)
+    ∷ (asks "leave", malformed)
+    ∷ (asks "leave ", malformed)
+    ∷ (asks "leave 0 1", malformed)
+    ∷ (asks "Leave 0", malformed)
+    ∷ (asks "leave 01", malformed)
+    ∷ (asks "leave  0", malformed)
+    ∷ (asks "leave 100000", malformed)
     ∷ (asks "view 1 0", malformed)
     ∷ (asks "section 1", malformed)
     ∷ (asks "delta", malformed)
@@ -95,7 +105,7 @@ lines =
     ∷ []
 
 pub line-examples : map given lines ≡ map wanted lines
-unfolding lines long malformed rowIn asks modeIn starts joined every some first tabulateFrom tabulate digitsIn digits same digit shaped isNumber valueFrom value longer pieces words kindOf twice users above joinOf insertOf pairOf rowOf asksFor requestOf lineAsks modes modeOf firstLine
+unfolding lines long malformed rowIn asks modeIn starts joined every some first tabulateFrom tabulate digitsIn digits same digit shaped isNumber valueFrom value longer pieces words kindOf twice users above insertOf exactly rowOf asksFor requestOf lineAsks modes modeOf firstLine
 line-examples = refl
 
 -- ---- answers: number, view and rows, and the text
@@ -111,6 +121,7 @@ texts =
     ∷ (answerText 11 1 [], bytes "no 11 1\n")
     ∷ (answerText 14 0 [], bytes "no 14\n")
     ∷ (answerText 1 0 [], bytes "no 1\n")
+    ∷ (answerText 15 0 [], bytes "no 15\n")
     ∷ []
 
 pub text-examples : map given texts ≡ map wanted texts

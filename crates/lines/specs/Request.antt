@@ -62,9 +62,9 @@ pieces (c ∷ cs) = let ps = pieces cs in cond (eqb c 32) ([] ∷ ps) (longer c 
 -- ---- requests
 
 unfoldable pub words : List (List ℕ)
-words = bytes "join" ∷ bytes "insert" ∷ bytes "grant" ∷ bytes "revoke" ∷ bytes "open" ∷ []
+words = bytes "join" ∷ bytes "insert" ∷ bytes "grant" ∷ bytes "revoke" ∷ bytes "open" ∷ bytes "leave" ∷ []
 
--- which of the words; 5 for none
+-- which of the words; 6 for none
 unfoldable pub kindOf : List ℕ → ℕ
 kindOf w = first (same w) words
 
@@ -85,24 +85,22 @@ above ns = cond (some (leb people) ns) 1 0
 abbrev pub asking : ℕ → ℕ → ℕ → Line
 asking k a b = line.Asks (record { kind = k; a = a; b = b })
 
-unfoldable pub joinOf : List ℕ → Line
-joinOf [] = asking 0 0 0
-joinOf (n ∷ ns) = line.Malformed
-
 unfoldable pub insertOf : List ℕ → Line
 insertOf ns = cond (twice ns) line.Malformed (asking 1 (users ns) (above ns))
 
-unfoldable pub pairOf : ℕ → List ℕ → Line
-pairOf k [] = line.Malformed
-pairOf k (a ∷ []) = line.Malformed
-pairOf k (a ∷ b ∷ []) = asking k a b
-pairOf k (a ∷ b ∷ n ∷ ns) = line.Malformed
+-- exactly n numbers, two at most; what a request has no number for is 0
+unfoldable pub exactly : ℕ → ℕ → List ℕ → Line
+exactly n k ns = cond (eqb (length ns) n) (asking k (getD ns 0 0) (getD ns 1 0)) line.Malformed
 
 -- the request of a word and its numbers, as the row of numbers that `asked` of rules/specs/Calls reads
 unfoldable pub rowOf : ℕ → List ℕ → Line
-rowOf zero ns = joinOf ns
+rowOf zero ns = exactly 0 0 ns
 rowOf (suc zero) ns = insertOf ns
-rowOf (suc (suc k)) ns = cond (ltb k 3) (pairOf (suc (suc k)) ns) line.Malformed
+rowOf (suc (suc zero)) ns = exactly 2 2 ns
+rowOf (suc (suc (suc zero))) ns = exactly 2 3 ns
+rowOf (suc (suc (suc (suc zero)))) ns = exactly 2 4 ns
+rowOf (suc (suc (suc (suc (suc zero))))) ns = exactly 1 5 ns
+rowOf (suc (suc (suc (suc (suc (suc k)))))) ns = line.Malformed
 
 unfoldable pub asksFor : ℕ → List (List ℕ) → Line
 asksFor k ps = cond (every isNumber ps) (rowOf k (map value ps)) line.Malformed

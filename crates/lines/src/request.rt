@@ -5,9 +5,9 @@ use sets::Users;
 ghost use mathlib.Core.Path.{_≡_};
 ghost use Prim.Native.Nat.{_+_, _≤_};
 ghost use lib.Dec.{eqb};
-ghost use lib.ListN.{length, drop};
+ghost use lib.ListN.{length, drop, getD};
 ghost use Rattle.rules.specs.Lists.{some, first};
-ghost use Rattle.lines.specs.Request.{same, shaped, numberIn, kindOf, twice, users, above, rowOf, asksFor, lineAsks, firstLine};
+ghost use Rattle.lines.specs.Request.{same, shaped, numberIn, kindOf, twice, users, above, insertOf, exactly, rowOf, asksFor, lineAsks, firstLine};
 ghost use Rattle.lines.specs.Reading.{space, behind, Rest, numbersOf, got, counted};
 
 // A request as the row of three numbers that a call which serves several requests takes.
@@ -194,7 +194,7 @@ fn above_of(numbers: &[u64]) -> u64
     0
 }
 
-// Which request a word is: 0 join, 1 insert, 2 grant, 3 revoke, 4 open; 5 for none.
+// Which request a word is: 0 join, 1 insert, 2 grant, 3 revoke, 4 open, 5 leave; 6 for none.
 fn kind_of(word: &[u8]) -> u64
     ensures { λ r. ⌜ r ≡ kindOf (now (word .entry)) ⌝ }
 {
@@ -213,36 +213,57 @@ fn kind_of(word: &[u8]) -> u64
     if same(word, b"open") {
         return 4;
     }
-    5
+    if same(word, b"leave") {
+        return 5;
+    }
+    6
+}
+
+// An insert of the users that the numbers name.
+fn insert_of(numbers: &[u64]) -> Line
+    ensures { λ r. ⌜ r ≡ insertOf (now (numbers .entry)) ⌝ }
+{
+    if repeats(numbers) {
+        return Line::Malformed;
+    }
+    let a = users_of(numbers);
+    let b = above_of(numbers);
+    Line::Asks(Asked { kind: 1, a, b })
+}
+
+// The number at i, 0 where there is none.
+fn number_at(numbers: &[u64], i: usize) -> u64
+    ensures { λ r. ⌜ r ≡ getD (now (numbers .entry)) i 0 ⌝ }
+{
+    if i < numbers.len() {
+        return numbers[i];
+    }
+    0
+}
+
+// A request of exactly n numbers, two at most.
+fn exactly(n: usize, kind: u64, numbers: &[u64]) -> Line
+    ensures { λ r. ⌜ r ≡ exactly n kind (now (numbers .entry)) ⌝ }
+{
+    if numbers.len() != n {
+        return Line::Malformed;
+    }
+    let a = number_at(numbers, 0);
+    let b = number_at(numbers, 1);
+    Line::Asks(Asked { kind, a, b })
 }
 
 // The request of a word and its numbers.
 fn row_of(kind: u64, numbers: &[u64]) -> Line
     ensures { λ r. ⌜ r ≡ rowOf kind (now (numbers .entry)) ⌝ }
 {
-    if kind == 0 {
-        if numbers.len() != 0 {
-            return Line::Malformed;
-        }
-        return Line::Asks(Asked { kind, a: 0, b: 0 });
+    match kind {
+        0 => exactly(0, kind, numbers),
+        1 => insert_of(numbers),
+        2 | 3 | 4 => exactly(2, kind, numbers),
+        5 => exactly(1, kind, numbers),
+        _ => Line::Malformed,
     }
-    if kind == 1 {
-        if repeats(numbers) {
-            return Line::Malformed;
-        }
-        let a = users_of(numbers);
-        let b = above_of(numbers);
-        return Line::Asks(Asked { kind, a, b });
-    }
-    if kind > 4 {
-        return Line::Malformed;
-    }
-    if numbers.len() != 2 {
-        return Line::Malformed;
-    }
-    let a = numbers[0];
-    let b = numbers[1];
-    Line::Asks(Asked { kind, a, b })
 }
 
 // The request of a word and "the part of the line behind its first word" (RULES 14.3).

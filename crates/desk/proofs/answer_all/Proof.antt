@@ -22,7 +22,7 @@ Inv-loop iv₀ it₀ ov₀ ot₀ rs₀ input₀ requests₀ answers₀ orders₀
     × (384 ≡ length requests)
     × (384 ≡ length answers)
     × (18432 ≡ length orders)
-    × (16384 ≡ length out)
+    × (98304 ≡ length out)
     × Holds state (tables iv it ov ot rs) input out
     × Unless (state .failed) (Ran (desk state₀ (tables iv₀ it₀ ov₀ ot₀ rs₀) input₀ []) (desk state (tables iv it ov ot rs) input out) (state .going))
 

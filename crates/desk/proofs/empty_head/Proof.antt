@@ -23,15 +23,19 @@ new-requires-5 c κs = search needs
 new-requires-6 : tie.Need-new-requires-6
 new-requires-6 c κs = search needs
 
+empty-requires : tie.Need-empty-requires
+empty-requires c κs = search needs
+
 returns : tie.Need-returns
 unfolding headOf emptyBook emptyLayer
 returns c =
-    let e = c .before in
+    let f = c .before in
+    let e = f .before in
     let d = e .before in
     let b = d .before in
     let a = b .before in
     let u = a .before in
-    λ i. head (u .before .args .mode .0) (u .new .ensures i) (a .new2 .ensures i) (b .new3 .ensures i) (d .new4 .ensures i) (e .new5 .ensures i) (c .new6 .ensures i)
+    λ i. head (u .before .args .mode .0) (u .new .ensures i) (a .new2 .ensures i) (b .new3 .ensures i) (d .new4 .ensures i) (e .new5 .ensures i) (f .new6 .ensures i) (c .empty .ensures i)
 
 pub empty-head-spec : {M : Type 1} → statement M
 empty-head-spec =
@@ -43,4 +47,5 @@ empty-head-spec =
     new-requires-4
     new-requires-5
     new-requires-6
+    empty-requires
     returns)

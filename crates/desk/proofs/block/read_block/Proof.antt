@@ -5,7 +5,6 @@ use Rattle.desk.proofs.LineLaws.{part-next, part-none, line-long, stop-
 use Rattle.lines.specs.Program.{linesIn}
 use Rattle.desk.specs.Input.{between}
 use Rattle.desk.specs.Block.{mostOf, mostIn}
-use borrow.Author.Tests.{leb-true, leb-false}
 use mathlib.Core.List.{List}
 use mathlib.Core.Path.{_≡_, refl, ap, _∙_}
 use Prim.Native.Nat.{ℕ, _+_, _*_, _-_, _≤_, _<_}
@@ -53,9 +52,6 @@ asked-requires c κs = tt
 most-rows-requires : tie.Need-most-rows-requires Inv-loop μ-loop
 most-rows-requires c κs = tt
 
-sub-room : tie.Need-sub-room Inv-loop μ-loop
-sub-room c = omega (arith, leb-true)
-
 put-request-requires : tie.Need-put-request-requires Inv-loop μ-loop
 put-request-requires c κs = omega arith
 
@@ -72,23 +68,23 @@ loop-again : tie.Need-loop-again Inv-loop μ-loop
 loop-again c =
     let l = c .before .before .before .before .before .before .before .before .before .before .before .before .loop in
     let put = c .before .before .put-request in
-    let q = c .before .before .before .before .before .asked .result in
+    let q = c .before .before .before .before .before .before .asked .result in
     let more : mostIn (take ((l .rows + 1) * 3) (put .last .0)) ≡ mostIn (take (l .rows * 3) (l .requests)) + mostOf (q .kind) =
     ap (λ (x : List ℕ). mostIn (take ((l .rows + 1) * 3) x)) (put .ensures) ∙ most-more (l .rows) q (l .requests) (omega arith) in
     let s = c .before .before .before .before .before .before .before .before .before .before .before .before .before .before .before in
     let input = s .args .input .now in
     let to = s .args .u .to in
-    let width = c .before .before .before .before .before .before .before .before .line-end .result in
-    let e = c .before .before .before .before .before .before .before .before .line-end .ensures .0 in
+    let width = c .before .before .before .before .before .before .before .before .before .line-end .result in
+    let e = c .before .before .before .before .before .before .before .before .before .line-end .ensures .0 in
     let inside : width < to - l .from = omega arith in (
       omega arith,
       omega arith,
       omega arith,
-      omega (arith, leb-true),
       omega arith,
-      goes-more _ _ _ (l .rows) (l .room) (l .cut) (l .from) (l .requests) (l .inv .5) (omega arith) (omega (arith, leb-true)) (omega arith)
+      omega arith,
+      goes-more _ _ _ (l .rows) (l .room) (l .cut) (l .from) (l .requests) (l .inv .5) (omega arith) (omega arith)
           (part-next input (l .from) to width (omega arith) (omega arith) e inside)
-          (c .before .before .before .before .before .asked .ensures) (put .ensures) (c .before .before .before .before .most-rows .ensures .0)
+          (c .before .before .before .before .before .before .asked .ensures) (put .ensures) (c .before .before .before .before .before .most-rows .ensures) (c .before .before .before .before .if2 .left)
           (omega (arith, line-long input (l .from) to width (omega arith) (omega arith) e inside)),
     )
 
@@ -97,9 +93,9 @@ same-length c = omega arith
 
 returns : tie.Need-returns Inv-loop μ-loop
 returns c =
-    let l = c .before .before .loop in (
+    let l = c .before .loop in (
       record { ordered = omega arith; inside = omega arith },
-      (omega arith, (omega arith, record { takes = goes-end _ _ _ (l .rows) (l .room) (l .cut) (l .from) (l .requests) (l .inv .5) (stop-room (l .room) (l .cut) (l .from) (128 - l .rows) (omega (arith, leb-false)) _); to≡ = refl; ended≡ = refl })),
+      (omega arith, (omega arith, record { takes = goes-end _ _ _ (l .rows) (l .room) (l .cut) (l .from) (l .requests) (l .inv .5) (stop-full (l .room) (l .cut) (l .from) (omega arith) _); to≡ = refl; ended≡ = refl })),
     )
 
 same-length-2 : tie.Need-same-length-2 Inv-loop μ-loop
@@ -107,9 +103,11 @@ same-length-2 c = omega arith
 
 returns-2 : tie.Need-returns-2 Inv-loop μ-loop
 returns-2 c =
-    let l = c .before .loop in (
+    let l = c .before .before .before .before .loop in
+    let s = c .before .before .before .before .before .before .before in
+    let ended = part-none (s .args .input .now) (l .from) (s .args .u .to) (c .before .line-end .result) (omega arith) (omega arith) (c .before .line-end .ensures .0) (omega arith) in (
       record { ordered = omega arith; inside = omega arith },
-      (omega arith, (omega arith, record { takes = goes-end _ _ _ (l .rows) (l .room) (l .cut) (l .from) (l .requests) (l .inv .5) (stop-full (l .room) (l .cut) (l .from) (omega arith) _); to≡ = refl; ended≡ = refl })),
+      (omega arith, (omega arith, record { takes = goes-end _ _ _ (l .rows) (l .room) (l .cut) (l .from) (l .requests) (l .inv .5) (stop-lines (l .room) (l .cut) (l .from) (128 - l .rows) ended); to≡ = refl; ended≡ = refl })),
     )
 
 same-length-3 : tie.Need-same-length-3 Inv-loop μ-loop
@@ -117,9 +115,12 @@ same-length-3 c = omega arith
 
 returns-3 : tie.Need-returns-3 Inv-loop μ-loop
 returns-3 c =
-    let l = c .before .before .before .before .before .loop in (
+    let l = c .before .before .before .before .before .before .before .before .loop in
+    let s = c .before .before .before .before .before .before .before .before .before .before .before in
+    let next = part-next (s .args .input .now) (l .from) (s .args .u .to) (c .before .before .before .before .before .line-end .result) (omega arith) (omega arith) (c .before .before .before .before .before .line-end .ensures .0) (omega arith) in
+    let stop = stop-room (l .room) (l .cut) (l .from) (128 - l .rows) next (c .before .before .asked .ensures) (c .before .most-rows .ensures) (c .if2 .taken) in (
       record { ordered = omega arith; inside = omega arith },
-      (omega arith, (omega arith, record { takes = goes-end _ _ _ (l .rows) (l .room) (l .cut) (l .from) (l .requests) (l .inv .5) (stop-lines (l .room) (l .cut) (l .from) (128 - l .rows) (part-none (c .before .before .before .before .before .before .before .before .args .input .now) (l .from) (c .before .before .before .before .before .before .before .before .args .u .to) (c .before .line-end .result) (omega arith) (omega arith) (c .before .line-end .ensures .0) (omega arith))); to≡ = refl; ended≡ = refl })),
+      (omega arith, (omega arith, record { takes = goes-end _ _ _ (l .rows) (l .room) (l .cut) (l .from) (l .requests) (l .inv .5) stop; to≡ = refl; ended≡ = refl })),
     )
 
 pub read-block-spec : {M : Type 1} → statement M
@@ -139,7 +140,6 @@ read-block-spec =
     part-asked-end
     asked-requires
     most-rows-requires
-    sub-room
     put-request-requires
     add-rows
     add-from

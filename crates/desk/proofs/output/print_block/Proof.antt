@@ -7,7 +7,7 @@ use lib.ListN.{length, take, drop}
 use borrow.Author.Needs.{needs}
 use mathlib.Core.List.{List, _∷_}
 use mathlib.Core.Bool.{true}
-use Rattle.desk.specs.Output.{counts, neverMore, longest, filledTo, texts, Gathered}
+use Rattle.desk.specs.Output.{counts, neverMore, filledTo, texts, Gathered}
 use Rattle.desk.proofs.Laws.{counts-next}
 use Rattle.desk.proofs.PrintLaws.{gathered-all, gathered-more, texts-next, texts-done, few-next, few-rest, room-front}
 use Rattle.desk.proofs.output.print_block.Statement.{statement}
