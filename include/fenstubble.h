@@ -20,10 +20,15 @@
  * number says nothing of a user: the own vertices of user 3 may be inner 5 and outer 7. A user's own vertex is the one whose set is that user alone;
  * each layer has exactly one for each user.
  *
- * THE BOOK is a head of seven numbers (enum fenstubble_head_place) and five tables of bytes. They are the caller's, who lends them to each call as the
+ * LEAVING. A user who leaves is taken off every list in one request, and is on none again: the number stays theirs, and counts among the 64. Proved:
+ * a leaver opens nothing, whatever requests follow. (A book that is read brings its own leavers: after going back to one from before the leave, ask it
+ * again.) The keys that they were handed stay theirs, and give the inner keys that they gave: each folder that listed them gets an outer lock for those
+ * who remain.
+ *
+ * THE BOOK is a head of eleven numbers (enum fenstubble_head_place) and five tables of bytes. They are the caller's, who lends them to each call as the
  * last one left them. A table is at least as long as its limit asks (FENSTUBBLE_.._BYTES), however little of it is used; the head says how many rows
- * count, from the first on. What stands behind those is not looked at, and only new rows are written there. A head may have more numbers, and those
- * behind the seventh are neither looked at nor changed.
+ * count, from the first on, and who has left. What stands behind the rows that count is not looked at, and only new rows are written there. A head may
+ * have more numbers, and those behind the eleventh are neither looked at nor changed.
  *
  *   table            bytes of a row               most rows
  *   inner_vertices   set 8                        320, for 64 users and 256 folders
@@ -39,14 +44,18 @@
  * The empty book is a head of zeros but for its mode, with tables of any content. Mode full (0) puts an outer lock on every folder; mode delta (1) only
  * where the inner one lets too many in.
  *
- * AS BYTES a book is 17 bytes (FENSTUBBLE_BOOK_HEADER), then the rows that count of the five tables, in the order above, and nothing else:
+ * AS BYTES a book is a header of 17 bytes (FENSTUBBLE_BOOK_HEADER), the set of leavers, then the rows that count of the five tables, in the order
+ * above, and nothing else:
  *
  *   at   bytes                                 at   bytes
- *   0    3   "TKB" (54 4B 42)                  9    2   inner vertices
- *   3    2   1, the version of this layout     11   2   inner tokens
- *   5    1   mode                              13   2   outer vertices
- *   6    1   users                             15   2   outer tokens
- *   7    2   folders                           17       the rows
+ *   0    3   "TKB" (54 4B 42)                  11   2   inner tokens
+ *   3    2   2, the version of this layout     13   2   outer vertices
+ *   5    1   mode                              15   2   outer tokens
+ *   6    1   users                             17   8   the set of leavers (FENSTUBBLE_BOOK_LEAVERS)
+ *   7    2   folders                           25       the rows (FENSTUBBLE_BOOK_ROWS)
+ *   9    2   inner vertices
+ *
+ * In version 1 there is no set of leavers: the rows start at 17, and nobody has left. Such a book is read like any other, and written as version 2.
  *
  * THE RESULT of a call is 0 (done) or the number of the refusal; 11 comes as 11 + 256 * view. FENSTUBBLE_NUMBER and FENSTUBBLE_VIEW take it apart, and
  * fenstubble_reason says it in words. Look at it first: a refused call leaves all that it was lent as it was, head, tables, lists and buffers, and the
@@ -62,11 +71,12 @@
  *   number     holds if                                      place
  *   24         there are fewer than 17 bytes                 how many there are
  *   20         they do not begin with "TKB"                  0
- *   21         the version is not 1                          3
+ *   21         the version is neither 1 nor 2                3
  *   22         the mode is neither 0 nor 1                   5
  *   23         a count is over its limit                     where the first such count starts: 6, 7, 9, 11, 13 or 15
- *   24         the length is not that of header and rows     how many bytes there are, be it 65535 or more
- *   31 to 38   S1 to S8, in this order, is broken            where the first row that breaks it starts; 65535 with 32: a user's own vertex is missing
+ *   24         the length is not that of version and counts  how many bytes there are, be it 65535 or more
+ *   31 to 38   S1 to S8, in this order, is broken            where the first row that breaks it starts; 65535 with 32: a user's own vertex is missing;
+ *                                                            17 with 31, in version 2: the set of leavers names somebody who has not joined
  *
  * fenstubble_read and fenstubble_section tell it so, and fenstubble_row_at makes section and row of a place.
  *
@@ -77,15 +87,17 @@
  *   insert   4, the 5s; for the lock 1, the 2s, 3; 7
  *   grant    for the other folders that its token would open 1, the 2s, a 3 for each; for the folder itself 1, the 2s, 3; 6
  *   revoke   1, the 2s, 3
+ *   leave    for each folder that lists the user, by rising number: 1, the 2s, 3
  *
  *   - A new user's number is head[FENSTUBBLE_HEAD_USERS] before the join, which is the number of users less 1 after it. A new folder's is
  *     head[FENSTUBBLE_HEAD_RESOURCES] before the insert, the number of folders less 1 after it.
  *   - A join has two orders, 4 and 1. The keys that they make are the new user's own, to be handed to that user. No other request makes a user's own
  *     vertex, and nobody is handed the keys of the others.
  *
- * A HOST THAT STOPS in the middle of a request, behind any of its orders, has let nobody in. Proved: every other encrypted folder opens for exactly
- * its list, and the folder that the request names for all who are on its list both before and after the request, and for nobody who is on neither. A
- * new folder counts once it is encrypted (RULES 6.6). This rests on the order of the rows, and on the host:
+ * A HOST THAT STOPS in the middle of a request, behind any of its orders, has let nobody in. Proved: an encrypted folder that the request does not
+ * change opens for exactly its list, and one that it changes (the folder that it names, of a leave each one that lists the user) for all who are on its
+ * list both before and after the request, and for nobody who is on neither. A new folder counts once it is encrypted (RULES 6.6). This rests on the
+ * order of the rows, and on the host:
  *   - The new book and its orders are kept together, in one step (one file replaced, one transaction), before the first order is obeyed. A host that
  *     was stopped obeys them all again, from the first, before it asks for anything else. What an order asks for and is there already stays as it is: a
  *     key, a token, a lock, a folder. Then the same holds on the way, also if it stops again, and at the end the host has what the new book says (RULES
@@ -121,12 +133,12 @@ extern "C" {
 #endif
 
 /* major * 10000 + minor * 100 + patch */
-#define FENSTUBBLE_VERSION 30000
-#define FENSTUBBLE_VERSION_TEXT "3.0.0"
+#define FENSTUBBLE_VERSION 40000
+#define FENSTUBBLE_VERSION_TEXT "4.0.0"
 
 /* ---- limits and sizes */
 
-#define FENSTUBBLE_USERS 64
+#define FENSTUBBLE_USERS 64 /* those who have left among them */
 #define FENSTUBBLE_RESOURCES 256
 #define FENSTUBBLE_INNER_TOKENS 4096 /* of both kinds together */
 #define FENSTUBBLE_OUTER_TOKENS 4096
@@ -156,7 +168,9 @@ extern "C" {
 #define FENSTUBBLE_RESOURCES_BYTES (FENSTUBBLE_RESOURCES_ROWS * FENSTUBBLE_RESOURCES_WIDTH)
 
 #define FENSTUBBLE_BOOK_HEADER 17
-#define FENSTUBBLE_BOOK_BYTES 46609 /* of the largest book: the header and all tables full */
+#define FENSTUBBLE_BOOK_LEAVERS FENSTUBBLE_BOOK_HEADER                        /* where the set of leavers stands, in version 2 */
+#define FENSTUBBLE_BOOK_ROWS (FENSTUBBLE_BOOK_LEAVERS + FENSTUBBLE_SET_BYTES) /* where the rows start; in version 1 right behind the header */
+#define FENSTUBBLE_BOOK_BYTES 46617                                           /* of the largest book: header, set of leavers, all tables full */
 
 #define FENSTUBBLE_NO_OUTER 65535 /* in the place of an outer vertex: none */
 #define FENSTUBBLE_NO_ROW 65535   /* a place along with 32: a vertex is missing, so that no row is there to be told */
@@ -167,9 +181,10 @@ extern "C" {
 #define FENSTUBBLE_ANSWER_WIDTH 3
 
 /* no request gives more order rows: with a list of this length none is refused with 10. Bounds by request: join 2, insert 132, grant 385, revoke
- * 65 */
-#define FENSTUBBLE_ORDER_ROWS 385
+ * 65, leave 4608 */
+#define FENSTUBBLE_ORDER_ROWS 4608
 #define FENSTUBBLE_ORDERS_LEN (FENSTUBBLE_ORDER_ROWS * FENSTUBBLE_ORDER_WIDTH)
+#define FENSTUBBLE_GRANT_ROWS 385 /* of a grant; and of any other request but a leave */
 
 /* no chain has more tokens, in either layer; and no open more rows, of both chains together: a list of this length is never too short for it */
 #define FENSTUBBLE_CHAIN_ROWS 63
@@ -181,7 +196,7 @@ extern "C" {
 /* ---- numbers and their meaning */
 
 /* the head's places */
-#define FENSTUBBLE_HEAD_LEN 7
+#define FENSTUBBLE_HEAD_LEN 11
 enum fenstubble_head_place {
     FENSTUBBLE_HEAD_MODE = 0,           /* enum fenstubble_mode */
     FENSTUBBLE_HEAD_USERS = 1,          /* users who have joined */
@@ -189,7 +204,8 @@ enum fenstubble_head_place {
     FENSTUBBLE_HEAD_INNER_VERTICES = 3, /* rows that count in inner_vertices, the users' own among them */
     FENSTUBBLE_HEAD_INNER_TOKENS = 4,   /* rows that count in inner_tokens */
     FENSTUBBLE_HEAD_OUTER_VERTICES = 5, /* rows that count in outer_vertices, the users' own among them */
-    FENSTUBBLE_HEAD_OUTER_TOKENS = 6    /* rows that count in outer_tokens */
+    FENSTUBBLE_HEAD_OUTER_TOKENS = 6,   /* rows that count in outer_tokens */
+    FENSTUBBLE_HEAD_LEAVERS = 7         /* the set of leavers, four numbers: user i is bit i % 16 of number 7 + i / 16 (fenstubble_has_left) */
 };
 
 enum fenstubble_mode {
@@ -242,7 +258,7 @@ enum fenstubble_order {
 enum fenstubble_refusal {
     FENSTUBBLE_DONE = 0,              /* it was not refused */
     FENSTUBBLE_NO_SUCH = 1,           /* no such user, folder or section, or a list names a user who has not joined */
-    FENSTUBBLE_USERS_FULL = 2,        /* a join at 64 users */
+    FENSTUBBLE_USERS_FULL = 2,        /* a join at 64 users, those who have left among them */
     FENSTUBBLE_RESOURCES_FULL = 3,    /* an insert at 256 folders */
     FENSTUBBLE_EMPTY_LIST = 4,        /* an insert for nobody */
     FENSTUBBLE_LISTED = 5,            /* a grant to a user whom the list names */
@@ -253,16 +269,17 @@ enum fenstubble_refusal {
     FENSTUBBLE_SHORT_ANSWER = 10,     /* the list or buffer lent for the answer is too short */
     FENSTUBBLE_CLOSED = 11,           /* an open whose view is not 0: the view comes with it */
     FENSTUBBLE_UNSOUND = 12,          /* the head and tables do not hold a sound book. Judged before all but 13 */
-    FENSTUBBLE_SHORT_TABLE = 13,      /* a head of fewer than 7 numbers, a table shorter than its limit, a set of fewer than 8 bytes */
+    FENSTUBBLE_SHORT_TABLE = 13,      /* a head of fewer than 11 numbers, a table shorter than its limit, a set of fewer than 8 bytes */
     FENSTUBBLE_MALFORMED = 14,        /* a line that is no request: from the program `fenstubble` alone, never from a call */
+    FENSTUBBLE_HAS_LEFT = 15,         /* a grant to a user who has left, a leave of one, an insert whose list names one. Judged right after 1 */
 
     /* of a book's bytes, each with a place: the header, then the rules of a sound book */
     FENSTUBBLE_WRONG_MARK = 20,    /* not "TKB" */
-    FENSTUBBLE_WRONG_VERSION = 21, /* not 1 */
+    FENSTUBBLE_WRONG_VERSION = 21, /* neither 1 nor 2 */
     FENSTUBBLE_WRONG_MODE = 22,    /* neither 0 nor 1 */
     FENSTUBBLE_WRONG_COUNT = 23,   /* over 64 users, 256 folders, users + folders inner vertices, users + 448 outer ones, or 4096 tokens of a layer */
-    FENSTUBBLE_WRONG_LENGTH = 24,  /* not that of header and rows */
-    FENSTUBBLE_BROKEN_S1 = 31,     /* a row has a kind above 1, a vertex that is not there, or a user who has not joined */
+    FENSTUBBLE_WRONG_LENGTH = 24,  /* not that of header, set of leavers (in version 2) and rows */
+    FENSTUBBLE_BROKEN_S1 = 31,     /* a kind above 1, a vertex that is not there, a set with a user who has not joined, a list with one who has left */
     FENSTUBBLE_BROKEN_S2 = 32,     /* a user has no own vertex; or a token that is not of kind 1 leads to one; or an inner vertex has the empty set */
     FENSTUBBLE_BROKEN_S3 = 33,     /* a vertex has the set of an earlier one of its layer */
     FENSTUBBLE_BROKEN_S4 = 34,     /* a token that is not of kind 1 starts at the empty set, or at one that is no proper part of that it leads to */
@@ -276,7 +293,12 @@ enum fenstubble_refusal {
 #define FENSTUBBLE_NUMBER(result) ((result) % 256)
 #define FENSTUBBLE_VIEW(result) ((result) / 256)
 
-/* The two functions that follow stand here and not in the library, where every function is proved. */
+/* The three functions that follow stand here and not in the library, where every function is proved. */
+
+/* Whether a user has left, by a head as the calls leave it. */
+static inline int fenstubble_has_left(const uint16_t *head, uint16_t user) {
+    return user < FENSTUBBLE_USERS && (head[FENSTUBBLE_HEAD_LEAVERS + user / 16] >> user % 16 & 1);
+}
 
 /* A result in words; "no such refusal" where there is none of that number. */
 static inline const char *fenstubble_reason(uint16_t result) {
@@ -296,12 +318,13 @@ static inline const char *fenstubble_reason(uint16_t result) {
     case FENSTUBBLE_UNSOUND: return "the tables hold no sound book: go back to the last one that was kept";
     case FENSTUBBLE_SHORT_TABLE: return "a head, table or set that was lent is too short";
     case FENSTUBBLE_MALFORMED: return "the line is not a request: see fenstubble --help";
+    case FENSTUBBLE_HAS_LEFT: return "the user has left, or the list names a user who has: whoever comes back joins anew";
     case FENSTUBBLE_WRONG_MARK: return "the bytes do not begin with the mark of a book, TKB";
-    case FENSTUBBLE_WRONG_VERSION: return "the book's version is not 1";
+    case FENSTUBBLE_WRONG_VERSION: return "the book's version is neither 1 nor 2";
     case FENSTUBBLE_WRONG_MODE: return "the book's mode is neither 0 nor 1";
     case FENSTUBBLE_WRONG_COUNT: return "a count in the book's header is over its limit";
-    case FENSTUBBLE_WRONG_LENGTH: return "the length is not that of the book's header and rows";
-    case FENSTUBBLE_BROKEN_S1: return "S1 is broken: the row has a kind above 1, a vertex that is not there, or a user who has not joined";
+    case FENSTUBBLE_WRONG_LENGTH: return "the length is not what the book's version and counts ask for";
+    case FENSTUBBLE_BROKEN_S1: return "S1 is broken: a kind above 1, a vertex that is not there, a set with a user who has not joined, or a list with one who has left";
     case FENSTUBBLE_BROKEN_S2: return "S2 is broken: a user has no own vertex, a token that is not of kind 1 leads to one, or an inner vertex has the empty set";
     case FENSTUBBLE_BROKEN_S3: return "S3 is broken: an earlier vertex of the layer has the same set";
     case FENSTUBBLE_BROKEN_S4: return "S4 is broken: the set where the token starts is empty, or no proper part of the set that it leads to";
@@ -318,14 +341,14 @@ struct fenstubble_row {
     size_t section, number;
 };
 
-/* The row at a place of a book's bytes, such as 31 to 38 tell, by the counts in their header: FENSTUBBLE_BOOK_HEADER bytes are looked at. Where no row is
- * there, as at FENSTUBBLE_NO_ROW, the section is FENSTUBBLE_SECTIONS. */
+/* The row at a place of a book's bytes, such as 31 to 38 tell, by version and counts in their header: FENSTUBBLE_BOOK_HEADER bytes are looked at.
+ * Where no row is there, as at FENSTUBBLE_NO_ROW, or in version 2 at FENSTUBBLE_BOOK_LEAVERS, the section is FENSTUBBLE_SECTIONS. */
 static inline struct fenstubble_row fenstubble_row_at(const uint8_t *book, size_t place) {
     static const uint8_t counts[] = {9, 11, 13, 15, 7}; /* where the header has them */
     static const uint8_t widths[] = {FENSTUBBLE_INNER_VERTICES_WIDTH, FENSTUBBLE_INNER_TOKENS_WIDTH, FENSTUBBLE_OUTER_VERTICES_WIDTH,
                                      FENSTUBBLE_OUTER_TOKENS_WIDTH, FENSTUBBLE_RESOURCES_WIDTH};
     struct fenstubble_row row = {0, 0};
-    size_t start = FENSTUBBLE_BOOK_HEADER;
+    size_t start = book[3] == 1 ? FENSTUBBLE_BOOK_HEADER : FENSTUBBLE_BOOK_ROWS;
     for (; row.section < FENSTUBBLE_SECTIONS; row.section++) {
         size_t count = book[counts[row.section]] + 256u * book[counts[row.section] + 1], end = start + count * widths[row.section];
         if (start <= place && place < end) {
@@ -358,8 +381,8 @@ uint16_t fenstubble_check(const uint16_t *head, size_t head_len, FENSTUBBLE_CONS
 /* The two calls on a book's bytes. *place is written by each of them, accepted or refused: along with 20 to 24 and 31 to 38 it says where the bytes are
  * broken (see above), and along with any other result it is 0. */
 
-/* Section k of a book's bytes (enum fenstubble_section_number) is the stretch of *length bytes from book + *start on; one without rows starts where
- * the one before it ends.
+/* Section k of a book's bytes (enum fenstubble_section_number) is the stretch of *length bytes from book + *start on. Section 0 starts at
+ * FENSTUBBLE_BOOK_ROWS (in version 1 at FENSTUBBLE_BOOK_HEADER), each other one where the one before it ends, also one without rows.
  * 20 to 24, 31 to 38, then 1 */
 uint16_t fenstubble_section(const uint8_t *book, size_t book_len, size_t k, size_t *start, size_t *length, size_t *place);
 
@@ -367,7 +390,7 @@ uint16_t fenstubble_section(const uint8_t *book, size_t book_len, size_t k, size
  * 13, then 20 to 24, 31 to 38 */
 uint16_t fenstubble_read(const uint8_t *book, size_t book_len, uint16_t *head, size_t head_len, FENSTUBBLE_TABLES, size_t *place);
 
-/* The book as bytes into the buffer; *length is how many. With FENSTUBBLE_BOOK_BYTES the buffer is never too short.
+/* The book as bytes of version 2 into the buffer; *length is how many. With FENSTUBBLE_BOOK_BYTES the buffer is never too short.
  * 13, 12, 10 */
 uint16_t fenstubble_write(const uint16_t *head, size_t head_len, FENSTUBBLE_CONST_TABLES, uint8_t *buffer, size_t buffer_len, size_t *length);
 
@@ -379,12 +402,12 @@ uint16_t fenstubble_write(const uint16_t *head, size_t head_len, FENSTUBBLE_CONS
 uint16_t fenstubble_join(uint16_t *head, size_t head_len, FENSTUBBLE_TABLES, uint16_t *orders, size_t orders_len, uint16_t *count);
 
 /* A new folder for the users of `list`, a set: FENSTUBBLE_SET_BYTES bytes, and any behind them are not looked at.
- * 13, 12, 1, 4, 3, 7, 8, 9, 10 */
+ * 13, 12, 1, 15, 4, 3, 7, 8, 9, 10 */
 uint16_t fenstubble_insert(uint16_t *head, size_t head_len, FENSTUBBLE_TABLES, uint16_t *orders, size_t orders_len, uint16_t *count,
                            const uint8_t *list, size_t list_len);
 
 /* The user may read the folder from now on.
- * 13, 12, 1, 5, 7, 8, 9, 10 */
+ * 13, 12, 1, 15, 5, 7, 8, 9, 10 */
 uint16_t fenstubble_grant(uint16_t *head, size_t head_len, FENSTUBBLE_TABLES, uint16_t *orders, size_t orders_len, uint16_t *count, uint16_t resource,
                           uint16_t user);
 
@@ -392,6 +415,12 @@ uint16_t fenstubble_grant(uint16_t *head, size_t head_len, FENSTUBBLE_TABLES, ui
  * 13, 12, 1, 6, 7, 9, 10 */
 uint16_t fenstubble_revoke(uint16_t *head, size_t head_len, FENSTUBBLE_TABLES, uint16_t *orders, size_t orders_len, uint16_t *count, uint16_t resource,
                            uint16_t user);
+
+/* The user may read nothing any more, for good: each list that names the user is revoked, by rising number of the folder, and the user is in the set of
+ * leavers. It is one request, with one list of orders: 7, 9 and 10 are judged of the whole, and a refused leave has taken nobody off any list. Where no
+ * list names the user there are no orders; the head has changed all the same, and is to be kept.
+ * 13, 12, 1, 15, 7, 9, 10 */
+uint16_t fenstubble_leave(uint16_t *head, size_t head_len, FENSTUBBLE_TABLES, uint16_t *orders, size_t orders_len, uint16_t *count, uint16_t user);
 
 /* What the user knows of the folder's keys: *view is one of enum fenstubble_view_number.
  * 13, 12, 1 */
@@ -410,7 +439,8 @@ enum fenstubble_request {
     FENSTUBBLE_REQUEST_INSERT = 1, /* a: the list as a number, bit i for user i. b: 0; any other says that the list names a user above 63, which is 1 */
     FENSTUBBLE_REQUEST_GRANT = 2,  /* a: the folder. b: the user */
     FENSTUBBLE_REQUEST_REVOKE = 3, /* a: the folder. b: the user */
-    FENSTUBBLE_REQUEST_OPEN = 4    /* a: the user. b: the folder */
+    FENSTUBBLE_REQUEST_OPEN = 4,   /* a: the user. b: the folder */
+    FENSTUBBLE_REQUEST_LEAVE = 5   /* a: the user. b does not count */
 };
 /* an open's rows in the order list: FENSTUBBLE_ROW_INNER, token row, 0 for the inner chain, then FENSTUBBLE_ROW_OUTER, token row, 0 for the outer */
 #define FENSTUBBLE_ROW_INNER 105 /* 'i' */
@@ -419,8 +449,9 @@ enum fenstubble_request {
 /* Several requests in one call, each on the book that those before it left and on the order rows left, as its own call would; a refused one leaves the
  * book, uses no order rows, and the next one goes on. A request row is three numbers: its kind (enum fenstubble_request), a, b; none is cut to fewer
  * bits. Its answer row is three numbers: the refusal's number or 0; the view for 11, else 0; and how many order rows it was given, which follow those
- * of the requests before it. *used is how many rows all used; FENSTUBBLE_ORDER_ROWS for each request are always enough. The book is judged once, first,
- * so that no answer row has 13 or 12. Numbers past the last whole row of three do not count. A host notes of each request when its orders are obeyed.
+ * of the requests before it. *used is how many rows all used; FENSTUBBLE_ORDER_ROWS for each leave, and FENSTUBBLE_GRANT_ROWS for each other request,
+ * are always enough. The book is judged once, first, so that no answer row has 13 or 12. Numbers past the last whole row of three do not count. A host
+ * notes of each request when its orders are obeyed.
  * 13, 12, 10 (fewer answer rows than request rows) */
 uint16_t fenstubble_serve(uint16_t *head, size_t head_len, FENSTUBBLE_TABLES, const uint64_t *requests, size_t requests_len, uint16_t *answers,
                           size_t answers_len, uint16_t *orders, size_t orders_len, size_t *used);

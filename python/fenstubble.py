@@ -14,9 +14,16 @@ A request that is refused raises Refused and leaves the book as it was. Bytes th
     >>> data[-1] = data[-2] = 0
     >>> Book.from_bytes(data)
     Traceback (most recent call last):
-    fenstubble.Refused: 38 (byte 67, folder row 0): S8 is broken: the folder's outer lock is not what its mode and its list ask for
+    fenstubble.Refused: 38 (byte 75, folder row 0): S8 is broken: the folder's outer lock is not what its mode and its list ask for
 
-The module lends what the calls need, so 10 and 13 never come. The library is the file that FENSTUBBLE_LIBRARY names, or lib/libfenstubble.so.3 of the prefix that
+Who leaves is taken off every list in one request, for good:
+
+    >>> book.leave(child).orders
+    [Order(kind=<Kind.LOCK: 3>, a=0, b=0)]
+    >>> book.leavers
+    frozenset({1})
+
+The module lends what the calls need, so 10 and 13 never come. The library is the file that FENSTUBBLE_LIBRARY names, or lib/libfenstubble.so.4 of the prefix that
 this file is installed in, or what the system's loader finds. One thread at a time on one book.
 """
 from __future__ import annotations
@@ -30,16 +37,20 @@ from itertools import count, islice
 from pathlib import Path
 from typing import Callable, Iterable, Iterator, NamedTuple, Optional, Sequence, Union
 
-VERSION = 30000  # that this module is written for: major * 10000 + minor * 100 + patch
+VERSION = 40000  # that this module is written for: major * 10000 + minor * 100 + patch
 USERS, RESOURCES, INNER_TOKENS, OUTER_TOKENS, OUTER_GROUPS = 64, 256, 4096, 4096, 448  # the limits; a resource is a folder
 SET_BYTES = 8  # a set of users: bit i % 8 of byte i // 8 is user i
 WIDTHS = (SET_BYTES, 5, SET_BYTES, 4, SET_BYTES + 4)  # bytes of a row: inner vertices, inner tokens, outer vertices, outer tokens, folders
 ROWS = (USERS + RESOURCES, INNER_TOKENS, USERS + OUTER_GROUPS, OUTER_TOKENS, RESOURCES)  # rows of the lent tables
-HEAD_LEN = 7  # mode, users, folders, inner vertices, inner tokens, outer vertices, outer tokens
-ORDER_WIDTH, ORDER_ROWS = 3, 385  # numbers of an order row; rows that no request exceeds
+HEAD_LEN = 11  # mode, users, folders, inner vertices, inner tokens, outer vertices, outer tokens; the set of leavers, four numbers
+HEAD_LEAVERS = 7  # where the set of leavers begins in the head: user i is bit i % 16 of number 7 + i // 16
+ORDER_WIDTH, ORDER_ROWS = 3, 4608  # numbers of an order row; rows that no request exceeds
+GRANT_ROWS = 385  # rows that no request but a leave exceeds
 CHAIN_ROWS = 63  # tokens that no chain exceeds, in either layer
 OPEN_ROWS = 2 * CHAIN_ROWS  # rows that no open exceeds, both chains together
-BOOK_HEADER, BOOK_BYTES = 17, 46609  # bytes before the rows, and of the largest book
+BOOK_HEADER, BOOK_BYTES = 17, 46617  # bytes of the header, and of the largest book
+BOOK_LEAVERS = BOOK_HEADER  # where a book's bytes have the set of leavers, in version 2
+BOOK_ROWS = BOOK_LEAVERS + SET_BYTES  # where the rows start; in version 1 right behind the header
 COUNTS = (9, 11, 13, 15, 7)  # where the header counts the rows: of inner vertices and so on, as in WIDTHS
 NO_OUTER = 65535  # in the place of an outer vertex: none
 NO_ROW = 65535  # a place along with 32: a vertex is missing, so that no row is there to be told
@@ -78,6 +89,7 @@ class Ask(IntEnum):
     GRANT = 2  # folder, user
     REVOKE = 3  # folder, user
     OPEN = 4  # user, folder
+    LEAVE = 5  # user, and no b
 
 
 class Section(IntEnum):
@@ -104,7 +116,7 @@ class Order(NamedTuple):
 
 
 class Answer(NamedTuple):
-    """An accepted request: the new user or folder (of a grant or revoke: its folder), and the orders, to be obeyed one after the other. Wherever the host stops in them,
+    """An accepted request: the new user or folder (of a grant or revoke: its folder; of a leave: its user), and the orders, to be obeyed one after the other. Wherever the host stops in them,
     nobody is let in: a grant's token and an insert's folder come last, behind the locks. An insert may ask for the lock of its folder before the folder is there."""
 
     number: int
@@ -156,12 +168,13 @@ REASONS = {  # word for word those of fenstubble_reason in fenstubble.h
     12: "the tables hold no sound book: go back to the last one that was kept",
     13: "a head, table or set that was lent is too short",
     14: "the line is not a request: see fenstubble --help",
+    15: "the user has left, or the list names a user who has: whoever comes back joins anew",
     20: "the bytes do not begin with the mark of a book, TKB",
-    21: "the book's version is not 1",
+    21: "the book's version is neither 1 nor 2",
     22: "the book's mode is neither 0 nor 1",
     23: "a count in the book's header is over its limit",
-    24: "the length is not that of the book's header and rows",
-    31: "S1 is broken: the row has a kind above 1, a vertex that is not there, or a user who has not joined",
+    24: "the length is not what the book's version and counts ask for",
+    31: "S1 is broken: a kind above 1, a vertex that is not there, a set with a user who has not joined, or a list with one who has left",
     32: "S2 is broken: a user has no own vertex, a token that is not of kind 1 leads to one, or an inner vertex has the empty set",
     33: "S3 is broken: an earlier vertex of the layer has the same set",
     34: "S4 is broken: the set where the token starts is empty, or no proper part of the set that it leads to",
@@ -179,7 +192,7 @@ def reason(result: int) -> str:
 
 class Refused(Exception):
     """A call said no: its number; with 11 the view; with 20 to 24 and 31 to 38, of a book's bytes, the place, and with 31 to 38 the row that starts there. The place
-    is a byte, with 24 the length, with 32 and NO_ROW a vertex that is missing."""
+    is a byte, with 24 the length, with 32 and NO_ROW a vertex that is missing. At the set of leavers there is no row."""
 
     def __init__(self, number: int, view: Optional[View] = None, place: Optional[int] = None, row: Optional[Row] = None) -> None:
         super().__init__(number, view, place, row)
@@ -210,6 +223,8 @@ class Refused(Exception):
             return f"{self.place} bytes"
         if self.number == 32 and self.place == NO_ROW:
             return f"{NO_ROW}, a missing vertex"
+        if self.number == 31 and self.row is None:
+            return f"byte {self.place}, the set of leavers"
         return f"byte {self.place}" + (f", {self.row}" if self.row is not None else "")
 
 
@@ -218,8 +233,8 @@ Reply = Union[Answer, Chains, Refused]
 
 def _load() -> ctypes.CDLL:
     named = os.environ.get("FENSTUBBLE_LIBRARY")
-    installed = Path(__file__).resolve().parent.parent.parent / "lib" / "libfenstubble.so.3"
-    path = named or (str(installed) if installed.exists() else "libfenstubble.so.3")
+    installed = Path(__file__).resolve().parent.parent.parent / "lib" / "libfenstubble.so.4"
+    path = named or (str(installed) if installed.exists() else "libfenstubble.so.4")
     try:
         library = ctypes.CDLL(path)
     except OSError as error:
@@ -252,6 +267,7 @@ _join = _declare("join", *_BOOK, *_ORDERS)
 _insert = _declare("insert", *_BOOK, *_ORDERS, _BYTES, _LENGTH)
 _grant = _declare("grant", *_BOOK, *_ORDERS, _NUMBER, _NUMBER)
 _revoke = _declare("revoke", *_BOOK, *_ORDERS, _NUMBER, _NUMBER)
+_leave = _declare("leave", *_BOOK, *_ORDERS, _NUMBER)
 _view = _declare("view", *_BOOK, _NUMBER, _NUMBER, _NUMBERS)
 _open = _declare("open", *_BOOK, _NUMBER, _NUMBER, _NUMBERS, _LENGTH, _NUMBERS, _NUMBERS)
 _serve = _declare("serve", *_BOOK, ctypes.POINTER(ctypes.c_uint64), _LENGTH, _NUMBERS, _LENGTH, _NUMBERS, _LENGTH, _SIZE)
@@ -312,8 +328,8 @@ def section(data: bytes, k: int) -> memoryview:
 
 
 def row_at(data: bytes, place: int) -> Optional[Row]:
-    """The row of a book's bytes that is at this place, by the counts in their header; None where there is none."""
-    start = BOOK_HEADER
+    """The row of a book's bytes that is at this place, by the version and the counts in their header; None where there is none."""
+    start = BOOK_HEADER if data[3:5] == b"\1\0" else BOOK_ROWS
     for k in Section:
         end = start + WIDTHS[k] * int.from_bytes(data[COUNTS[k] : COUNTS[k] + 2], "little")
         if start <= place < end:
@@ -336,6 +352,7 @@ class Book:
         return book
 
     def to_bytes(self) -> bytes:
+        """The book as bytes of version 2, also where it was read from version 1."""
         buffer, length = (ctypes.c_uint8 * BOOK_BYTES)(), ctypes.c_size_t()
         _take(_write(*self._lent(), buffer, BOOK_BYTES, length))
         return bytes(buffer[: length.value])
@@ -368,6 +385,10 @@ class Book:
     def revoke(self, folder: int, user: int) -> Answer:
         return Answer(folder, self._request(_revoke, _number(folder), _number(user)))
 
+    def leave(self, user: int) -> Answer:
+        """The user is taken off every list, for good, in one request; the number is not used again."""
+        return Answer(user, self._request(_leave, _number(user)))
+
     def view(self, user: int, folder: int) -> View:
         view = ctypes.c_uint16()
         _take(_view(*self._lent(), _number(user), _number(folder), view))
@@ -383,7 +404,7 @@ class Book:
         reply after the other and notes when each is done: after a stop it begins with the first that is not."""
         asked = list(requests)
         numbers = [number for request in asked for number in _row(request)]
-        room = sum(OPEN_ROWS if request.ask == Ask.OPEN else ORDER_ROWS for request in asked)
+        room = sum({Ask.OPEN: OPEN_ROWS, Ask.LEAVE: ORDER_ROWS}.get(request.ask, GRANT_ROWS) for request in asked)
         lent, used = (ctypes.c_uint64 * len(numbers))(*numbers), ctypes.c_size_t()
         answers, orders = (ctypes.c_uint16 * (len(asked) * 3))(), (ctypes.c_uint16 * (room * ORDER_WIDTH))()
         new = {Ask.JOIN: count(self.users), Ask.INSERT: count(self.folders)}
@@ -406,8 +427,13 @@ class Book:
 
     @property
     def users(self) -> int:
-        """How many have joined."""
+        """How many have joined, those who have left among them."""
         return self._head[1]
+
+    @property
+    def leavers(self) -> frozenset[int]:
+        """Who has left."""
+        return _users(struct.pack("<4H", *self._head[HEAD_LEAVERS:]))
 
     @property
     def folders(self) -> int:

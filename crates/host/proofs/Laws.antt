@@ -11,7 +11,7 @@ use lib.ListN.{length}
 use borrow.Author.Tests.{lt-ltb, le-ltb, ltb-true}
 use Rattle.rows.specs.Number.{stored}
 use Rattle.rules.specs.Tests.{when, firstSome}
-use Rattle.rules.specs.Bytes.{Tables, headIn, start, fault, isBook, bookIn}
+use Rattle.rules.specs.Bytes.{Tables, versionIn, headIn, start, fault, isBook, bookIn}
 use Rattle.rules.specs.Refusals.{number, denialNumber, denialPlace, common, verdict, faultyBy, refusalSection}
 use Rattle.rules.specs.Calls.{Part, part, partBy, sectionCall, Load, loading, readCall, Write, writing, writeCall}
 use Rattle.rules.specs.declared.Head.{Head}
@@ -72,11 +72,11 @@ section-passed bs k {n = n} p e = go (fault bs) (ltb k 5) refl refl (sym e ∙ a
     go none false eo eb z = absurd (omega (arith, z))
     go none true eo eb z = (fault-none bs .0 eo, ltb-true k 5 eb)
 
-pub section-given : (bs : List ℕ) (k b m : ℕ) {s : List ℕ} {n at a : ℕ} {h : Head} → part s n at ≡ sectionCall bs k → n ≡ 0 → h ≡ headIn bs → a ≡ start h k
+pub section-given : (bs : List ℕ) (k b m : ℕ) {s : List ℕ} {n at a : ℕ} → part s n at ≡ sectionCall bs k → n ≡ 0 → a ≡ start (versionIn bs) (headIn bs) k
     → answered 0 a (length s) at ≡ sectionAnswer bs k b m
 unfolding sectionAnswer stretchBy
-section-given bs k b m p e eh ea =
-    (λ i. answered 0 ((ea ∙ ap (λ (x : Head). start x k) eh) i) (length (p i .stretch)) (p i .place))
+section-given bs k b m p e ea =
+    (λ i. answered 0 (ea i) (length (p i .stretch)) (p i .place))
     ∙ ap (stretchBy bs k b m (sectionCall bs k .place)) (sym e ∙ ap (λ (x : Part). x .cell) p)
 
 stretch-none : (bs : List ℕ) (k a m at n : ℕ) → (n ≡ 0 → ⊥) → answered n a m at ≡ stretchBy bs k a m at n

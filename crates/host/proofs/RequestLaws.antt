@@ -15,7 +15,7 @@ use Rattle.rules.specs.declared.Head.{Head}
 use Rattle.rules.specs.declared.View.{View}
 use Rattle.rules.specs.declared.View.the-variants.{Open, SelLocked, BelLocked, Locked}
 use Rattle.rules.specs.declared.Refusal.{Refusal}
-use Rattle.rules.specs.declared.Refusal.the-variants.{ShortTable, Unsound, NoSuch, EmptyList, UsersFull, ResourcesFull, Listed, NotListed, GroupsFull, InnerTokensFull, OuterTokensFull, Closed, ShortList}
+use Rattle.rules.specs.declared.Refusal.the-variants.{ShortTable, Unsound, NoSuch, HasLeft, EmptyList, UsersFull, ResourcesFull, Listed, NotListed, GroupsFull, InnerTokensFull, OuterTokensFull, Closed, ShortList}
 use Rattle.rules.specs.declared.Changed.{Changed}
 use Rattle.rules.specs.declared.Changed.the-variants as changed
 use Rattle.rules.specs.declared.Viewed.{Viewed}
@@ -35,10 +35,11 @@ view-few BelLocked = omega arith
 view-few Locked = omega arith
 
 -- they are small
-pub result-few : (n : Refusal) → (number n ≤ 14) × (viewTold n ≤ 3)
+pub result-few : (n : Refusal) → (number n ≤ 15) × (viewTold n ≤ 3)
 result-few ShortTable = (omega arith, omega arith)
 result-few Unsound = (omega arith, omega arith)
 result-few NoSuch = (omega arith, omega arith)
+result-few HasLeft = (omega arith, omega arith)
 result-few EmptyList = (omega arith, omega arith)
 result-few UsersFull = (omega arith, omega arith)
 result-few ResourcesFull = (omega arith, omega arith)

@@ -1,15 +1,15 @@
 -- The C interface's answers, from the calls' definitions: numbers only. RULES 8.9: the refusal's number is the result, and the cells, whose content at entry
 -- comes last among the arguments, stay as they were; but a cell for the place takes what is told, whatever it held.
 -- Assumes nothing.
-use Prim.Native.Nat.{ℕ, zero, suc, _+_, _*_}
+use Prim.Native.Nat.{ℕ, zero, suc, _+_, _*_, _/_, _%_}
 use mathlib.Core.Bool.{cond}
 use mathlib.Core.List.{List, [], _∷_}
 use mathlib.Core.Option.{Option, some, none}
 use lib.Dec.{ltb}
 use lib.ListN.{length, getD}
 use Rattle.rows.specs.Number.{cell, stored}
-use Rattle.sets.specs.Words.{bytes}
-use Rattle.rules.specs.Bytes.{Tables, bookIn, head, headIn, start}
+use Rattle.sets.specs.Words.{bytes, setIn}
+use Rattle.rules.specs.Bytes.{Tables, bookIn, head, versionIn, headIn, start}
 use Rattle.rules.specs.Refusals.{number, viewNumber, viewTold, denialNumber, denialPlace, common, verdict, Request, inserts}
 use Rattle.rules.specs.Calls.{sectionCall, readCall, writeCall, Change, change, viewCall, openCall, Service, serveCall}
 use Rattle.rules.specs.declared.Head.{Head}
@@ -27,21 +27,37 @@ use Rattle.rules.specs.declared.Loaded.the-variants as loaded
 use Rattle.rules.specs.declared.Stored.{Stored}
 use Rattle.rules.specs.declared.Stored.the-variants as written
 
--- which version of the interface answers: major * 10000 + minor * 100 + patch, here 3.0.0
+-- which version of the interface answers: major * 10000 + minor * 100 + patch, here 4.0.0
 abbrev pub version : ℕ
-version = 30000
+version = 40000
 
--- a head is 7 numbers
+-- the set in the k numbers of l from `at` on, 16 bits each, lowest first
+unfoldable pub setFrom : ℕ → ℕ → List ℕ → ℕ
+setFrom zero at l = 0
+setFrom (suc k) at l = getD l at 0 + 65536 * setFrom k (suc at) l
+
+-- the k numbers of a set
+unfoldable pub setNumbers : ℕ → ℕ → List ℕ
+setNumbers zero s = []
+setNumbers (suc k) s = s % 65536 ∷ setNumbers k (s / 65536)
+
+-- a set is 4 numbers
+abbrev pub setLength : ℕ
+setLength = 4
+
+-- a head is 7 numbers, and behind them a set
 abbrev pub headLength : ℕ
-headLength = 7
+headLength = 7 + setLength
 
--- mode, users, resources, inner vertices, inner tokens, outer vertices, outer tokens
+-- mode, users, resources, inner vertices, inner tokens, outer vertices, outer tokens, the set of leavers
 abbrev pub headFrom : List ℕ → Head
-headFrom l = head (getD l 0 0) (getD l 1 0) (getD l 2 0) (getD l 3 0) (getD l 4 0) (getD l 5 0) (getD l 6 0)
+headFrom l =
+    head (getD l 0 0) (getD l 1 0) (getD l 2 0) (getD l 3 0) (getD l 4 0) (getD l 5 0) (getD l 6 0) (setFrom setLength 7 l)
 
 abbrev pub headNumbers : Head → List ℕ
 headNumbers h =
-    h .mode .0 ∷ h .users .0 ∷ h .resources .0 ∷ h .«inner_vertices» .0 ∷ h .«inner_tokens» .0 ∷ h .«outer_vertices» .0 ∷ h .«outer_tokens» .0 ∷ []
+    h .mode .0 ∷ h .users .0 ∷ h .resources .0 ∷ h .«inner_vertices» .0 ∷ h .«inner_tokens» .0 ∷ h .«outer_vertices» .0 ∷ h .«outer_tokens» .0
+    ∷ setNumbers setLength (setIn (h .leavers))
 
 -- 0, or the refusal's number
 abbrev pub told : Option Refusal → ℕ
@@ -63,7 +79,7 @@ abbrev pub answered : ℕ → ℕ → ℕ → ℕ → Stretch
 answered r s n at = record { result = r; start = s; size = n; place = at }
 
 unfoldable pub stretchBy : List ℕ → ℕ → ℕ → ℕ → ℕ → ℕ → Stretch
-stretchBy bs k s n at zero = answered 0 (start (headIn bs) k) (length (sectionCall bs k .stretch)) at
+stretchBy bs k s n at zero = answered 0 (start (versionIn bs) (headIn bs) k) (length (sectionCall bs k .stretch)) at
 stretchBy bs k s n at (suc r) = answered (suc r) s n at
 
 unfoldable pub sectionAnswer : List ℕ → ℕ → ℕ → ℕ → Stretch

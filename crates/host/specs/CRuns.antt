@@ -8,7 +8,7 @@ use lib.ListN.{length}
 use Rattle.sets.specs.Words.{bytes}
 use Rattle.rules.specs.Book.{Book}
 use Rattle.rules.specs.Bytes.{Tables, bookIn}
-use Rattle.rules.specs.Refusals.{joins, grants, revokes}
+use Rattle.rules.specs.Refusals.{joins, grants, revokes, leaves}
 use Rattle.rules.specs.Runs.{Kept, keep, Call, to-change, to-view, to-open, to-serve, to-read, to-write, to-show}
 use Rattle.host.specs.Answers.{headFrom, Loads, readAnswer, Changes, changeAnswer, insertOf, insertAnswer, Serves, serveAnswer}
 
@@ -39,6 +39,7 @@ pub data CCall : Type 0 where
   c-insert : List ℕ → ℕ → List ℕ → CCall
   c-grant : List ℕ → ℕ → ℕ → ℕ → CCall
   c-revoke : List ℕ → ℕ → ℕ → ℕ → CCall
+  c-leave : List ℕ → ℕ → ℕ → CCall
   c-view : ℕ → ℕ → ℕ → CCall
   c-open : ℕ → ℕ → List ℕ → ℕ → ℕ → CCall
   c-serve : List ℕ → List ℕ → List ℕ → ℕ → CCall
@@ -59,6 +60,7 @@ afterC (c-join list n) s = leftByChange (changeAnswer joins (s .numbers) (s .tab
 afterC (c-insert list n bs) s = leftByChange (insertAnswer bs (s .numbers) (s .tables) list n)
 afterC (c-grant list n r u) s = leftByChange (changeAnswer (grants r u) (s .numbers) (s .tables) list n)
 afterC (c-revoke list n r u) s = leftByChange (changeAnswer (revokes r u) (s .numbers) (s .tables) list n)
+afterC (c-leave list n u) s = leftByChange (changeAnswer (leaves u) (s .numbers) (s .tables) list n)
 afterC (c-serve requests answers list n) s = leftByServe (serveAnswer requests (s .numbers) (s .tables) answers list n)
 afterC (c-read bs at) s = leftByRead (readAnswer bs (s .numbers) (s .tables))
 afterC c-check s = s
@@ -79,6 +81,7 @@ called (c-join list n) = to-change joins list ∷ []
 called (c-insert list n bs) = cond (ltb (length bs) bytes) [] (to-change (insertOf bs) list ∷ [])
 called (c-grant list n r u) = to-change (grants r u) list ∷ []
 called (c-revoke list n r u) = to-change (revokes r u) list ∷ []
+called (c-leave list n u) = to-change (leaves u) list ∷ []
 called (c-serve requests answers list n) = to-serve requests answers list ∷ []
 called (c-read bs at) = to-read bs ∷ []
 called c-check = []

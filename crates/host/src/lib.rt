@@ -16,20 +16,47 @@ use rules::Stored;
 use rules::denial_number;
 use rules::denial_place;
 use rules::refusal_number;
+use sets::Users;
 use sound::Checked;
 use sound::check;
 ghost use mathlib.Core.Path.{_≡_};
 ghost use Prim.Native.Nat.{_≤_};
 ghost use lib.ListN.{length};
 ghost use Rattle.rows.specs.Number.{stored};
+ghost use Rattle.sets.specs.Words.{setIn};
 ghost use Rattle.rules.specs.Bytes.{tables};
-ghost use Rattle.host.specs.Answers.{version, headLength, headFrom, headNumbers, checkAnswer, sectionAnswer, readAnswer, writeAnswer, answered, loadedAs, writtenAs};
+ghost use Rattle.host.specs.Answers.{version, setFrom, setNumbers, setLength, headLength, headFrom, headNumbers, checkAnswer, sectionAnswer, readAnswer, writeAnswer, answered, loadedAs, writtenAs};
 
 // Major * 10000 + minor * 100 + patch.
-pub const VERSION: u32 = 30000;
+pub const VERSION: u32 = 40000;
 
-// The numbers of a head.
-pub const HEAD: usize = 7;
+// The numbers of a head: mode and counts, then the set of leavers, 16 bits each.
+pub const HEAD: usize = 11;
+
+// The set of leavers in a head's numbers.
+fn leavers_of(head: &[u16]) -> Users
+    requires { ⌜ headLength ≤ length (now head) ⌝ }
+    ensures { λ r. ⌜ setIn r ≡ setFrom setLength 7 (now (head .entry)) ⌝ }
+{
+    let high = head[9] as u64 + 0x1_0000 * head[10] as u64;
+    let rest = head[8] as u64 + 0x1_0000 * high;
+    Users::of_word(head[7] as u64 + 0x1_0000 * rest)
+}
+
+// A set of leavers into a head's numbers.
+fn put_leavers(head: &mut [u16], leavers: Users)
+    requires { ⌜ headLength ≤ length (now head) ⌝ }
+    ensures { λ _. ⌜ now (head .exit) ≡ stored 7 (setNumbers setLength (setIn leavers)) (now (head .entry)) ⌝ }
+{
+    let w = leavers.word();
+    let x = w / 0x1_0000;
+    let y = x / 0x1_0000;
+    let z = y / 0x1_0000;
+    head[7] = (w % 0x1_0000) as u16;
+    head[8] = (x % 0x1_0000) as u16;
+    head[9] = (y % 0x1_0000) as u16;
+    head[10] = (z % 0x1_0000) as u16;
+}
 
 // The head that its numbers give.
 pub fn head_of(head: &[u16]) -> Head
@@ -43,6 +70,7 @@ pub fn head_of(head: &[u16]) -> Head
     let inner_tokens = InnerTokens::new(head[4]);
     let outer_vertices = OuterVertices::new(head[5]);
     let outer_tokens = OuterTokens::new(head[6]);
+    let leavers = leavers_of(head);
     Head {
         mode,
         users,
@@ -51,6 +79,7 @@ pub fn head_of(head: &[u16]) -> Head
         inner_tokens,
         outer_vertices,
         outer_tokens,
+        leavers,
     }
 }
 
@@ -66,6 +95,7 @@ pub fn put_head(head: &mut [u16], h: Head)
     head[4] = h.inner_tokens.0;
     head[5] = h.outer_vertices.0;
     head[6] = h.outer_tokens.0;
+    put_leavers(head, h.leavers);
 }
 
 #[no_mangle]
@@ -111,7 +141,7 @@ pub extern "C" fn fenstubble_section(
     if cell != 0 {
         return cell;
     }
-    *start = book::start_of(book::head_in(bytes), k);
+    *start = book::start_of(book::version_in(bytes), book::head_in(bytes), k);
     *size = n;
     0
 }

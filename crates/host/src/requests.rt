@@ -24,7 +24,7 @@ ghost use mathlib.Core.Path.{_≡_};
 ghost use Prim.Native.Nat.{_≤_};
 ghost use lib.ListN.{length};
 ghost use Rattle.rules.specs.Bytes.{tables};
-ghost use Rattle.rules.specs.Refusals.{joins, grants, revokes};
+ghost use Rattle.rules.specs.Refusals.{joins, grants, revokes, leaves};
 ghost use Rattle.plan.specs.Judge.{requestOf};
 ghost use Rattle.host.specs.Answers.{headLength, resultOf, toldAs, changeTold, changedAs, changeAnswer, insertAnswer, viewedAs, viewAnswer, openedAs, openAnswer, serveTold, servedAs, serveAnswer};
 
@@ -50,7 +50,7 @@ fn told(c: Changed, head: &mut [u16], count: &mut u16) -> u16
     }
 }
 
-// Any of the four below.
+// Any of the five below.
 fn changed(
     head: &mut [u16],
     iv: &mut [u8],
@@ -162,6 +162,33 @@ pub extern "C" fn fenstubble_revoke(
         orders,
         count,
         Request::Revoke(Resource(r), User(u)),
+    )
+}
+
+#[no_mangle]
+pub extern "C" fn fenstubble_leave(
+    head: &mut [u16],
+    iv: &mut [u8],
+    it: &mut [u8],
+    ov: &mut [u8],
+    ot: &mut [u8],
+    rs: &mut [u8],
+    orders: &mut [u16],
+    count: &mut u16,
+    u: u16,
+) -> u16
+    ensures { λ k. ⌜ changedAs k (now (head .exit)) (tables (now (iv .exit)) (now (it .exit)) (now (ov .exit)) (now (ot .exit)) (now (rs .exit))) (now (orders .exit)) (now (count .exit)) ≡ changeAnswer (leaves u) (now (head .entry)) (tables (now (iv .entry)) (now (it .entry)) (now (ov .entry)) (now (ot .entry)) (now (rs .entry))) (now (orders .entry)) (now (count .entry)) ⌝ }
+{
+    changed(
+        head,
+        iv,
+        it,
+        ov,
+        ot,
+        rs,
+        orders,
+        count,
+        Request::Leave(User(u)),
     )
 }
 

@@ -8,12 +8,12 @@ use native.Mathlib.Omega.{arith}
 use lib.Dec.{ltb}
 use lib.ListN.{length, take, drop, take-append-drop}
 use lib.Seq.{length-take-le, drop-append-le}
-use borrow.Author.Tests.{le-ltb, ltb-true, ltb-false}
+use borrow.Author.Tests.{ltb-true, ltb-false}
 use Rattle.rows.specs.Number.{stored}
 use Rattle.rules.specs.Book.{Book}
 use Rattle.rules.specs.Requests.{Done}
 use Rattle.rules.specs.Bytes.{Tables, bookIn}
-use Rattle.rules.specs.Refusals.{Request, joins, inserts, grants, revokes, verdict, common, own, limits, work, refusal}
+use Rattle.rules.specs.Refusals.{Request, joins, inserts, grants, revokes, leaves, verdict, common, own, limits, work, refusal}
 use Rattle.rules.specs.Calls.{Change, changing, changeBy, change, rowsLent, orderRows, ordersIn}
 use Rattle.rules.specs.declared.Head.{Head}
 use Rattle.rules.specs.declared.Order.{Order}
@@ -38,14 +38,6 @@ least-fits room = go (ltb room mostOrders) refl
 pub least-few : {n : ℕ} (room : ℕ) → n ≡ least room → n ≤ mostOrders
 least-few {n} room e = omega (arith, e, least-fits room .1)
 
-short-same : (room n : ℕ) → n ≤ mostOrders → ltb room n ≡ ltb (least room) n
-unfolding least
-short-same room n h = go (ltb room mostOrders) refl
-  where
-    go : (z : Bool) → ltb room mostOrders ≡ z → ltb room n ≡ ltb (cond z room mostOrders) n
-    go true e = refl
-    go false e = le-ltb room n (omega (arith, ltb-false room mostOrders e)) ∙ sym (le-ltb mostOrders n h)
-
 abbrev Rows : Type 0
 Rows = List (Refusal × Bool)
 
@@ -65,13 +57,18 @@ few joins = omega arith
 few (inserts l) = omega arith
 few (grants r u) = omega arith
 few (revokes r u) = omega arith
+few (leaves u) = omega arith
 
 pub room-enough : (t : Tables) (b : Book) (room : ℕ) (q : Request) → refusal t b room q ≡ refusal t b (least room) q
-unfolding refusal limits
-room-enough t b room q =
-    verdict-behind (common t b ++ own q b) (limits room (work q b)) (limits (least room) (work q b)) (λ passed.
-    let (l, s, o) = common-none t b (own q b) passed in
-    rw (short-same room (length (work q b .orders)) (omega (arith, rows-enough q b s o, few q))))
+unfolding refusal least
+room-enough t b room q = go (ltb room mostOrders) refl
+  where
+    go : (z : Bool) → ltb room mostOrders ≡ z → verdict (common t b ++ own q b ++ limits room (work q b)) ≡ verdict (common t b ++ own q b ++ limits (cond z room mostOrders) (work q b))
+    go true e = refl
+    go false e =
+        verdict-behind (common t b ++ own q b) (limits room (work q b)) (limits mostOrders (work q b)) (λ passed.
+        let (l, s, o) = common-none t b (own q b) passed in
+        rows-enough q b s o room (omega (arith, few q, ltb-false room mostOrders e)) ∙ sym (rows-enough q b s o mostOrders (few q)))
 
 -- ---- what a request that is not refused gives
 

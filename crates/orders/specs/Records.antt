@@ -44,9 +44,9 @@ recorded q h t list = recordedBy (refusal t (bookIn h t) (length list) q) (work 
 
 -- ---- its parts
 
--- the most orders that a request gives (`rows-enough`), and their numbers
+-- the most orders that a request gives (`allowed-rows`), and their numbers
 abbrev pub mostOrders : ℕ
-mostOrders = 385
+mostOrders = 4608
 
 abbrev pub mostNumbers : ℕ
 mostNumbers = mostOrders * 3

@@ -13,8 +13,8 @@ ghost use Rattle.rules.specs.Calls.{changing, orderAt, ordersIn};
 ghost use Rattle.plan.specs.Judge.{requestOf};
 ghost use Rattle.orders.specs.Records.{over, mostNumbers, least, countOf, filled, recording, recorded};
 
-// The most orders that a request gives (`rows-enough`).
-const MOST: usize = 385;
+// The most orders that a request gives, a leave's (`allowed-rows`).
+const MOST: usize = 4608;
 
 // Stores a row as record `at`.
 fn store(records: &mut [Order], at: usize, kind: u16, a: u16, b: u16)

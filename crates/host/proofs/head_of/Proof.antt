@@ -44,15 +44,19 @@ shared-slice-read-new-7 c = search needs
 new-requires-6 : tie.Need-new-requires-6
 new-requires-6 c κs = search needs
 
+leavers-of-requires : tie.Need-leavers-of-requires
+leavers-of-requires c κs = search needs
+
 returns : tie.Need-returns
 returns c =
-    let a5 = c .before .before in
+    let a6 = c .before in
+    let a5 = a6 .before .before in
     let a4 = a5 .before .before in
     let a3 = a4 .before .before in
     let a2 = a3 .before .before in
     let a1 = a2 .before .before in
     let numbers = a1 .before .before .before .before .args .head .now in
-    λ i. head (getD numbers 0 0) (a1 .new .ensures i) (a2 .new2 .ensures i) (a3 .new3 .ensures i) (a4 .new4 .ensures i) (a5 .new5 .ensures i) (c .new6 .ensures i)
+    λ i. head (getD numbers 0 0) (a1 .new .ensures i) (a2 .new2 .ensures i) (a3 .new3 .ensures i) (a4 .new4 .ensures i) (a5 .new5 .ensures i) (a6 .new6 .ensures i) (c .leavers-of .ensures i)
 
 pub head-of-spec : {M : Type 1} → statement M
 head-of-spec =
@@ -71,4 +75,5 @@ head-of-spec =
     new-requires-5
     shared-slice-read-new-7
     new-requires-6
+    leavers-of-requires
     returns)
