@@ -133,6 +133,8 @@ pub struct Head {
     pub mode: u16,
     /// How many users have joined.
     pub users: u16,
+    /// Who of them has left.
+    pub leavers: UserSet,
     /// Rows in use of the resource table.
     pub resources: u16,
     /// Rows in use of the inner vertex table.
@@ -146,6 +148,48 @@ pub struct Head {
 }
 
 impl Head {
+    /// How many numbers it is in C.
+    pub const NUMBERS: usize = 11;
+
+    /// The head as C has it: mode, users and the counts, then the set of
+    /// leavers, 16 bits to a number, the lowest first.
+    pub fn numbers(&self) -> [u16; Head::NUMBERS] {
+        let set = |k: u32| (self.leavers.0 >> (16 * k)) as u16;
+        [
+            self.mode,
+            self.users,
+            self.resources,
+            self.inner_vertices,
+            self.inner_tokens,
+            self.outer_vertices,
+            self.outer_tokens,
+            set(0),
+            set(1),
+            set(2),
+            set(3),
+        ]
+    }
+
+    /// The head in the numbers that C has of it.
+    pub fn from_numbers(numbers: &[u16; Head::NUMBERS]) -> Head {
+        let [mode, users, resources, inner_vertices, inner_tokens, outer_vertices, outer_tokens, set @ ..] =
+            *numbers;
+        let leavers = set
+            .iter()
+            .rev()
+            .fold(0, |all, &part| all << 16 | u64::from(part));
+        Head {
+            mode,
+            users,
+            leavers: UserSet(leavers),
+            resources,
+            inner_vertices,
+            inner_tokens,
+            outer_vertices,
+            outer_tokens,
+        }
+    }
+
     /// Rows in use of the five tables, in the order of the book's sections.
     pub fn counts(&self) -> [usize; 5] {
         [
@@ -166,6 +210,8 @@ pub struct Book {
     pub mode: u16,
     /// How many users have joined.
     pub users: u16,
+    /// Who of them has left, for good.
+    pub leavers: UserSet,
     /// The starting set of each inner vertex.
     pub inner_vertices: Vec<UserSet>,
     /// The inner tokens.
@@ -184,6 +230,7 @@ impl Book {
         Book {
             mode: mode.number(),
             users: 0,
+            leavers: UserSet::EMPTY,
             inner_vertices: Vec::new(),
             inner_tokens: Vec::new(),
             outer_vertices: Vec::new(),
@@ -192,13 +239,14 @@ impl Book {
         }
     }
 
-    /// The head: mode, users and the tables' lengths. A length that does not
+    /// The head: mode, users, leavers and the tables' lengths. A length that does not
     /// fit shows as 65535, which is past every limit.
     pub fn head(&self) -> Head {
         let count = |length: usize| u16::try_from(length).unwrap_or(u16::MAX);
         Head {
             mode: self.mode,
             users: self.users,
+            leavers: self.leavers,
             resources: count(self.resources.len()),
             inner_vertices: count(self.inner_vertices.len()),
             inner_tokens: count(self.inner_tokens.len()),
@@ -207,9 +255,14 @@ impl Book {
         }
     }
 
-    /// Everyone who has joined.
+    /// Everyone who has joined, the leavers among them.
     pub fn joined(&self) -> UserSet {
         UserSet::first(self.users)
+    }
+
+    /// Everyone who has joined and not left.
+    pub fn staying(&self) -> UserSet {
+        self.joined().minus(self.leavers)
     }
 
     /// The row of a resource, if it exists.

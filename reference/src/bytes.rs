@@ -15,8 +15,6 @@ use crate::sound::{first_broken, first_over, limited, At};
 
 /// The mark at the start of a book.
 pub const MARK: [u8; 3] = [0x54, 0x4B, 0x42];
-/// The version behind it.
-pub const VERSION: u16 = 1;
 /// Where the version starts.
 pub const VERSION_PLACE: usize = 3;
 /// Where the mode stands.
@@ -24,8 +22,10 @@ pub const MODE_PLACE: usize = 5;
 /// Where the counts start: users, resources, inner vertices, inner tokens,
 /// outer vertices, outer tokens.
 pub const COUNT_PLACES: [usize; 6] = [6, 7, 9, 11, 13, 15];
-/// Bytes before the first section.
+/// Bytes of the header.
 pub const HEAD_LENGTH: usize = 17;
+/// Where the set of leavers stands, in a version that has it.
+pub const LEAVERS_PLACE: usize = HEAD_LENGTH;
 /// What is told for the place of a vertex that is missing.
 pub const NO_PLACE: usize = 65535;
 /// Bytes of a row in each section: inner vertices, inner tokens, outer
@@ -40,7 +40,43 @@ pub const LIMITS: [usize; 5] = [
     MAX_RESOURCES,
 ];
 /// Bytes of the largest book.
-pub const LARGEST: usize = 46_609;
+pub const LARGEST: usize = 46_617;
+
+/// A version of the bytes.
+#[derive(Clone, Copy, Debug, PartialEq, Eq)]
+pub enum Version {
+    /// 1, which is read only: without a set of leavers, so nobody has left.
+    One,
+    /// 2, which is read and written.
+    Two,
+}
+
+impl Version {
+    /// Both.
+    pub const ALL: [Version; 2] = [Version::One, Version::Two];
+
+    /// Its number.
+    pub fn number(self) -> u16 {
+        match self {
+            Version::One => 1,
+            Version::Two => 2,
+        }
+    }
+
+    /// The version with that number.
+    pub fn of(number: u16) -> Option<Version> {
+        let mut all = Version::ALL.into_iter();
+        all.find(|version| version.number() == number)
+    }
+
+    /// Where the set of leavers stands; it is empty in a version without one.
+    pub fn leavers(self) -> Range<usize> {
+        match self {
+            Version::One => LEAVERS_PLACE..LEAVERS_PLACE,
+            Version::Two => LEAVERS_PLACE..LEAVERS_PLACE + UserSet::WIDTH,
+        }
+    }
+}
 
 /// A row of a table as bytes, little-endian.
 pub trait Row: Sized {
@@ -141,9 +177,9 @@ pub fn write_rows<R: Row>(rows: &[R], bytes: &mut [u8]) {
 }
 
 /// Where the five sections of a book with that head stand in its bytes.
-pub fn sections(head: &Head) -> [Range<usize>; 5] {
+pub fn sections(head: &Head, version: Version) -> [Range<usize>; 5] {
     let counts = head.counts();
-    let mut start = HEAD_LENGTH;
+    let mut start = version.leavers().end;
     std::array::from_fn(|k| {
         let end = start + counts[k] * WIDTHS[k];
         let section = start..end;
@@ -153,13 +189,14 @@ pub fn sections(head: &Head) -> [Range<usize>; 5] {
 }
 
 /// The length of a book with that head.
-pub fn length(head: &Head) -> usize {
-    sections(head)[4].end
+pub fn length(head: &Head, version: Version) -> usize {
+    sections(head, version)[4].end
 }
 
-/// Reads the head: of bytes with the mark and the version, with a possible
-/// mode, possible counts, and exactly the length these ask for.
-pub fn read_head(bytes: &[u8]) -> Result<Head, Fault> {
+/// Reads the version and the head: of bytes with the mark and a version that
+/// there is, with a possible mode, possible counts, and exactly the length
+/// these ask for.
+pub fn read_head(bytes: &[u8]) -> Result<(Version, Head), Fault> {
     let found = bytes.len();
     if found < HEAD_LENGTH {
         let asked = None;
@@ -168,19 +205,18 @@ pub fn read_head(bytes: &[u8]) -> Result<Head, Fault> {
     if bytes[..3] != MARK {
         return Err(Fault::Mark);
     }
-    let version = read_16(bytes, VERSION_PLACE);
-    if version != VERSION {
-        return Err(Fault::Version(version));
-    }
+    let number = read_16(bytes, VERSION_PLACE);
+    let version = Version::of(number).ok_or(Fault::Version(number))?;
     let mode = u16::from(bytes[MODE_PLACE]);
     if Mode::of(mode).is_none() {
         return Err(Fault::Mode(mode));
     }
-    // Here the length is judged by the header of the version. The only version
-    // has the header that was asked for above.
-    let head = Head {
+    // Here the length is judged by the header of the version. Both versions
+    // have the header that was asked for above.
+    let mut head = Head {
         mode,
         users: u16::from(bytes[6]),
+        leavers: UserSet::EMPTY,
         resources: read_16(bytes, 7),
         inner_vertices: read_16(bytes, 9),
         inner_tokens: read_16(bytes, 11),
@@ -192,20 +228,25 @@ pub fn read_head(bytes: &[u8]) -> Result<Head, Fault> {
         let place = COUNT_PLACES[count];
         return Err(Fault::Count { limited, place });
     }
-    let asked = length(&head);
+    let asked = length(&head, version);
     if found != asked {
         let asked = Some(asked);
         return Err(Fault::Length { found, asked });
     }
-    Ok(head)
+    let set = &bytes[version.leavers()];
+    if !set.is_empty() {
+        head.leavers = UserSet::read(set);
+    }
+    Ok((version, head))
 }
 
 /// Where in the bytes of a book with that head a rule is broken.
-fn place(head: &Head, at: At) -> usize {
+fn place(head: &Head, version: Version, at: At) -> usize {
     match at {
+        At::Leavers => LEAVERS_PLACE,
         At::Row(section, row) => {
             let k = section.number();
-            sections(head)[k].start + row * WIDTHS[k]
+            sections(head, version)[k].start + row * WIDTHS[k]
         }
         At::Missing => NO_PLACE,
     }
@@ -213,11 +254,13 @@ fn place(head: &Head, at: At) -> usize {
 
 /// Reads a sound book, or tells the first thing that is wrong with the bytes.
 pub fn read(bytes: &[u8]) -> Result<SoundBook, Fault> {
-    let head = read_head(bytes)?;
-    let [inner_vertices, inner_tokens, outer_vertices, outer_tokens, resources] = sections(&head);
+    let (version, head) = read_head(bytes)?;
+    let [inner_vertices, inner_tokens, outer_vertices, outer_tokens, resources] =
+        sections(&head, version);
     let book = Book {
         mode: head.mode,
         users: head.users,
+        leavers: head.leavers,
         inner_vertices: read_rows(&bytes[inner_vertices]),
         inner_tokens: read_rows(&bytes[inner_tokens]),
         outer_vertices: read_rows(&bytes[outer_vertices]),
@@ -226,7 +269,7 @@ pub fn read(bytes: &[u8]) -> Result<SoundBook, Fault> {
     };
     match first_broken(&book) {
         Some(broken) => {
-            let place = place(&head, broken.at);
+            let place = place(&head, version, broken.at);
             Err(Fault::Broken { broken, place })
         }
         None => Ok(SoundBook(book)),
@@ -236,10 +279,16 @@ pub fn read(bytes: &[u8]) -> Result<SoundBook, Fault> {
 /// The book as bytes. Any book whose numbers fit can be written this way,
 /// also an unsound one; the lent face writes sound ones only.
 pub fn write(book: &Book) -> Vec<u8> {
+    write_as(book, Version::Two)
+}
+
+/// The book as bytes of that version. Of version 1 there are old books only;
+/// it can not say who has left.
+pub fn write_as(book: &Book, version: Version) -> Vec<u8> {
     let head = book.head();
-    let mut bytes = vec![0; length(&head)];
+    let mut bytes = vec![0; length(&head, version)];
     bytes[..3].copy_from_slice(&MARK);
-    bytes[3..5].copy_from_slice(&VERSION.to_le_bytes());
+    bytes[3..5].copy_from_slice(&version.number().to_le_bytes());
     bytes[5] = head.mode as u8;
     bytes[6] = head.users as u8;
     let counts = [
@@ -252,7 +301,9 @@ pub fn write(book: &Book) -> Vec<u8> {
     for (count, place) in counts.iter().zip(bytes[7..17].chunks_exact_mut(2)) {
         place.copy_from_slice(&count.to_le_bytes());
     }
-    let [inner_vertices, inner_tokens, outer_vertices, outer_tokens, resources] = sections(&head);
+    write_rows(&[book.leavers], &mut bytes[version.leavers()]);
+    let [inner_vertices, inner_tokens, outer_vertices, outer_tokens, resources] =
+        sections(&head, version);
     write_rows(&book.inner_vertices, &mut bytes[inner_vertices]);
     write_rows(&book.inner_tokens, &mut bytes[inner_tokens]);
     write_rows(&book.outer_vertices, &mut bytes[outer_vertices]);
@@ -264,8 +315,9 @@ pub fn write(book: &Book) -> Vec<u8> {
 /// The stretch of a sound book's bytes that is its section `k`. Refusals: what
 /// is wrong with the bytes, then 1.
 pub fn section(bytes: &[u8], k: u16) -> Result<&[u8], Refusal> {
-    let book = read(bytes)?;
-    let stretch = sections(&book.book().head())
+    read(bytes)?;
+    let (version, head) = read_head(bytes)?;
+    let stretch = sections(&head, version)
         .get(usize::from(k))
         .cloned()
         .ok_or(Refusal::NOT_THERE)?;

@@ -8,7 +8,7 @@ use std::fmt;
 use std::ops::RangeInclusive;
 
 use crate::book::{Book, Mode, SoundBook, KIND_ACCESS, KIND_DERIVATION};
-use crate::bytes;
+use crate::bytes::{self, Version};
 use crate::derive::{keys_of, outer_knowers, InnerKnowers, Key, KeySet};
 use crate::generate::{self, Random, Shape};
 use crate::host::{Host, Task};
@@ -206,6 +206,7 @@ fn lent_call(
         }
         Request::Grant(r, u) => lent::grant(head, &mut tables, r.0, u.0, list).map(|done| done.0),
         Request::Revoke(r, u) => lent::revoke(head, &mut tables, r.0, u.0, list).map(|done| done.0),
+        Request::Leave(u) => lent::leave(head, &mut tables, u.0, list).map(|done| done.0),
         Request::Open(u, r) => lent::open(head, &tables, u.0, r.0, list).map(|_| *head),
     }
 }
@@ -245,6 +246,7 @@ fn check_orders(before: &Book, request: &Request, orders: &[Order]) -> Result<()
             (1..=65).contains(&count) && new_outer <= 1,
             "a revoke with {count} orders"
         ),
+        Request::Leave(_) => must!(count <= 4608, "a leave with {count} orders"),
         Request::Open(..) => return Err("an open gave orders".into()),
     }
     Ok(())
@@ -265,14 +267,19 @@ fn check_answer(
         Request::Join if before.users == 64 => &[2],
         Request::Join => &[0],
         Request::Insert(list) if list.beyond || !list.set.within(before.joined()) => &[1],
+        Request::Insert(list) if !list.set.within(before.staying()) => &[15],
         Request::Insert(list) if list.set.is_empty() => &[4],
         Request::Insert(_) if before.resources.len() == 256 => &[3],
         Request::Insert(_) => &[0, 7, 8, 9],
         Request::Grant(r, u) | Request::Revoke(r, u) | Request::Open(u, r) if !there(r, u) => &[1],
+        Request::Grant(_, u) if before.leavers.names(u) => &[15],
         Request::Grant(r, u) if listed(r, u) => &[5],
         Request::Grant(..) => &[0, 7, 8, 9],
         Request::Revoke(r, u) if !listed(r, u) => &[6],
         Request::Revoke(..) => &[0, 7, 9],
+        Request::Leave(u) if u.0 >= before.users => &[1],
+        Request::Leave(u) if before.leavers.names(u) => &[15],
+        Request::Leave(_) => &[0, 7, 9],
         Request::Open(u, r) if listed(r, u) => &[0],
         Request::Open(..) => &[11],
     };
@@ -280,14 +287,22 @@ fn check_answer(
         allowed.contains(&number),
         "answered {number}, not {allowed:?}"
     );
+    if let (Request::Leave(u), [0, 7, 9]) = (*request, allowed) {
+        check_leave(before, after, u, result)?;
+    }
     if number != 0 {
         return Ok(());
     }
     let mut lists: Vec<UserSet> = before.resources.iter().map(|row| row.list).collect();
+    let mut leavers = before.leavers;
     match *request {
         Request::Insert(list) => lists.push(list.set),
         Request::Grant(r, u) => lists[r.index()] = lists[r.index()].with(u),
         Request::Revoke(r, u) => lists[r.index()] = lists[r.index()].without(u),
+        Request::Leave(u) => {
+            lists.iter_mut().for_each(|list| *list = list.without(u));
+            leavers = leavers.with(u);
+        }
         Request::Join | Request::Open(..) => {}
     }
     must!(
@@ -296,6 +311,37 @@ fn check_answer(
     );
     let joined = before.users + u16::from(*request == Request::Join);
     must!(after.users == joined, "the users are not as asked for");
+    must!(after.leavers == leavers, "the leavers are not as asked for");
+    Ok(())
+}
+
+/// A leave does what the revokes do that it stands for, one by one; and it is
+/// refused exactly if one of them would be.
+fn check_leave(
+    before: &Book,
+    after: &Book,
+    u: User,
+    result: &Result<Answer, Refusal>,
+) -> Result<(), String> {
+    let mut book = SoundBook(before.clone());
+    let mut orders = Vec::new();
+    for (place, row) in before.resources.iter().enumerate() {
+        if row.list.names(u) {
+            match book.revoke(Resource::at(place), u, usize::MAX) {
+                Ok(more) => orders.extend(more),
+                Err(no) => {
+                    must!(result.is_err(), "folder {place} alone gets {no}");
+                    return Ok(());
+                }
+            }
+        }
+    }
+    book.0.leavers = before.leavers.with(u);
+    must!(
+        *result == Ok(Answer::Orders(orders)),
+        "a leave gave {result:?}, not what its revokes give"
+    );
+    must!(book.book() == after, "a leave left another book");
     Ok(())
 }
 
@@ -513,27 +559,34 @@ fn no_circle(vertices: usize, mut steps: Vec<(usize, usize)>) -> bool {
 }
 
 /// Bytes and book go over into each other both ways, and the sections are
-/// the stretches of the bytes.
+/// the stretches of the bytes. Where nobody has left, bytes of version 1 are
+/// the same book.
 fn check_bytes(book: &Book) -> Result<(), String> {
     let written = bytes::write(book);
-    let read = bytes::read(&written).map_err(|fault| format!("its own bytes: {fault}"))?;
-    must!(read.book() == book, "read back, the book is another");
-    must!(
-        bytes::write(read.book()) == written,
-        "written again, the bytes are others"
-    );
     must!(written.len() <= bytes::LARGEST, "larger than the largest");
-    let mut start = bytes::HEAD_LENGTH;
-    for k in 0..5 {
-        let (mut cell, mut place) = (UNUSED_NUMBER, usize::MAX);
-        let stretch = lent::section(&written, k, &mut cell, &mut place);
+    for version in Version::ALL {
+        if version == Version::One && !book.leavers.is_empty() {
+            continue;
+        }
+        let given = bytes::write_as(book, version);
+        let read = bytes::read(&given).map_err(|fault| format!("its own bytes: {fault}"))?;
+        must!(read.book() == book, "read back, the book is another");
         must!(
-            cell == 0 && place == 0 && stretch.as_ptr() == written[start..].as_ptr(),
-            "section {k} starts elsewhere"
+            bytes::write(read.book()) == written,
+            "written again, the bytes are others"
         );
-        start += stretch.len();
+        let mut start = version.leavers().end;
+        for k in 0..5 {
+            let (mut cell, mut place) = (UNUSED_NUMBER, usize::MAX);
+            let stretch = lent::section(&given, k, &mut cell, &mut place);
+            must!(
+                cell == 0 && place == 0 && stretch.as_ptr() == given[start..].as_ptr(),
+                "section {k} starts elsewhere"
+            );
+            start += stretch.len();
+        }
+        must!(start == given.len(), "the sections are not the whole");
     }
-    must!(start == written.len(), "the sections are not the whole");
     Ok(())
 }
 
@@ -559,7 +612,9 @@ pub struct Summary {
     /// Requests accepted.
     pub accepted: usize,
     /// Answers by number; 0 for the accepted.
-    pub answers: [usize; 15],
+    pub answers: [usize; 16],
+    /// Leaves that were accepted, and that were refused.
+    pub leaves: [usize; 2],
     /// Most orders of one request.
     pub most_orders: usize,
     /// Longest chains of one open, both layers together.
@@ -582,6 +637,8 @@ impl fmt::Display for Summary {
             }
         }
         writeln!(f)?;
+        let [accepted, refused] = self.leaves;
+        writeln!(f, "leaves accepted {accepted}, refused {refused}")?;
         write!(
             f,
             "most orders of one request {}, longest open {} rows, {} stops of the host",
@@ -729,7 +786,11 @@ fn run_from(
 
 /// Notes in the summary what the request will answer.
 fn count(world: &World, request: &Request, care: Care, summary: &mut Summary) {
-    match world.book.clone().answer(request, usize::MAX) {
+    let result = world.book.clone().answer(request, usize::MAX);
+    if let Request::Leave(_) = request {
+        summary.leaves[usize::from(result.is_err())] += 1;
+    }
+    match result {
         Ok(answer) => {
             summary.accepted += 1;
             summary.answers[0] += 1;
@@ -743,7 +804,7 @@ fn count(world: &World, request: &Request, care: Care, summary: &mut Summary) {
                 }
             }
         }
-        Err(no) => summary.answers[usize::from(no.number).min(14)] += 1,
+        Err(no) => summary.answers[usize::from(no.number)] += 1,
     }
 }
 
@@ -830,6 +891,7 @@ fn moved_up(script: &[Request], at: usize, users: u16, resources: u16) -> Vec<Re
         }),
         Request::Grant(a, b) => Request::Grant(r(a), u(b)),
         Request::Revoke(a, b) => Request::Revoke(r(a), u(b)),
+        Request::Leave(a) => Request::Leave(u(a)),
         Request::Open(a, b) => Request::Open(u(a), r(b)),
     });
     before.iter().copied().chain(moved).collect()

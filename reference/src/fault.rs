@@ -3,7 +3,7 @@
 use std::fmt;
 
 use crate::book::Section;
-use crate::bytes::{HEAD_LENGTH, MODE_PLACE, VERSION, VERSION_PLACE};
+use crate::bytes::{HEAD_LENGTH, MODE_PLACE, VERSION_PLACE};
 use crate::refusal::Refusal;
 use crate::sound::{At, Broken, Limited, Rule};
 
@@ -23,7 +23,7 @@ pub enum Fault {
         /// Its byte.
         place: usize,
     },
-    /// 24: another length than the header and its rows have.
+    /// 24: another length than a book with this header has.
     Length {
         /// How many bytes there are.
         found: usize,
@@ -32,9 +32,9 @@ pub enum Fault {
     },
     /// 31 to 38: a rule is broken, at this place.
     Broken {
-        /// The rule and the row.
+        /// The rule, and what breaks it.
         broken: Broken,
-        /// Where the row starts.
+        /// Where that starts.
         place: usize,
     },
 }
@@ -75,17 +75,21 @@ impl fmt::Display for Fault {
     fn fmt(&self, f: &mut fmt::Formatter<'_>) -> fmt::Result {
         match *self {
             Fault::Mark => write!(f, "a book starts with the bytes 54 4B 42"),
-            Fault::Version(version) => write!(f, "the version is {version}, not {VERSION}"),
+            Fault::Version(version) => write!(f, "the version is {version}, neither 1 nor 2"),
             Fault::Mode(mode) => write!(f, "the mode is {mode}, neither 0 nor 1"),
             Fault::Count { limited, .. } => {
                 let Limited { name, count, most } = limited;
                 write!(f, "{name}: {count}, at most {most} can be")
             }
             Fault::Length { found, asked } => match asked {
-                Some(asked) => write!(f, "{found} bytes, header and rows have {asked}"),
+                Some(asked) => write!(f, "{found} bytes, a book with this header has {asked}"),
                 None => write!(f, "{found} bytes, the header alone has {HEAD_LENGTH}"),
             },
             Fault::Broken { broken, .. } => match broken.at {
+                At::Leavers => write!(
+                    f,
+                    "the set of leavers names somebody who has not joined (S1)"
+                ),
                 At::Row(section, row) => {
                     let name = name(section);
                     write!(f, "row {row} of the {name} {}", told(broken.rule))
@@ -109,7 +113,7 @@ fn name(section: Section) -> &'static str {
 /// What a row does that breaks the rule.
 fn told(rule: Rule) -> &'static str {
     match rule {
-        Rule::S1 => "has a kind, number or set that can not be (S1)",
+        Rule::S1 => "has a kind, number or set that can not be, or lists a leaver (S1)",
         Rule::S2 => "is an empty set, or a token into an own vertex (S2)",
         Rule::S3 => "has a set that is there before (S3)",
         Rule::S4 => "does not lead to a larger set around its own (S4)",

@@ -3,7 +3,8 @@
 //!
 //! The books are mostly ones no run of requests reaches: own vertices in odd
 //! places, groups nobody uses, spare tokens in any order, spare kind 1 rows,
-//! tables filled to a limit or to one below it.
+//! tables filled to a limit or to one below it. In about half of them somebody
+//! has left.
 
 use std::collections::HashSet;
 
@@ -78,6 +79,8 @@ pub struct Shape {
     pub mode: Mode,
     /// Users.
     pub users: usize,
+    /// Users who have left.
+    pub leavers: usize,
     /// Resources.
     pub resources: usize,
     /// Inner group vertices, used or not.
@@ -103,6 +106,7 @@ impl Shape {
         Shape {
             mode: random_mode(random),
             users,
+            leavers: few_or_many(random, users / 2),
             resources,
             inner_groups: random.between(0, resources),
             access_tokens: random.between(0, 8),
@@ -121,6 +125,7 @@ impl Shape {
         Shape {
             mode: random_mode(random),
             users,
+            leavers: few_or_many(random, users),
             resources,
             inner_groups: random.between(0, most_groups),
             access_tokens: random.between(0, 256),
@@ -143,6 +148,7 @@ impl Shape {
         Shape {
             mode: random_mode(random),
             users,
+            leavers: few_or_many(random, 8),
             resources,
             inner_groups,
             access_tokens: random.between(0, 512),
@@ -163,7 +169,7 @@ impl Shape {
     }
 }
 
-/// No spare tokens, so that chains stay long, or any number.
+/// None, or any number: with spare tokens chains do not stay long.
 fn few_or_many(random: &mut Random, most: usize) -> usize {
     if random.chance(1, 2) {
         0
@@ -328,6 +334,10 @@ pub fn book(random: &mut Random, shape: &Shape) -> Book {
     let users = shape.users.min(MAX_USERS);
     let resources = shape.resources.min(MAX_RESOURCES);
     let all = UserSet::first(users as u16);
+    let mut left = UserSet::EMPTY;
+    for _ in 0..shape.leavers {
+        left = member(random, all).map_or(left, |user| left.with(user));
+    }
 
     // The inner layer, with kind 1 rows mixed in.
     let wished = wishes(random, all, shape.inner_groups, shape.chains);
@@ -376,6 +386,7 @@ pub fn book(random: &mut Random, shape: &Shape) -> Book {
     let mut book = Book {
         mode: shape.mode.number(),
         users: users as u16,
+        leavers: left,
         inner_vertices: inner.sets,
         inner_tokens,
         outer_vertices: Vec::new(),
@@ -405,7 +416,7 @@ pub fn book(random: &mut Random, shape: &Shape) -> Book {
             _ => holders,
         };
         book.resources.push(ResourceRow {
-            list,
+            list: list.minus(left),
             inner,
             outer: None,
         });
@@ -426,13 +437,20 @@ pub fn book(random: &mut Random, shape: &Shape) -> Book {
     if random.chance(1, 3) {
         wished.push(UserSet::EMPTY);
     }
+    // Where all holders have left there is no list but the empty one.
+    let mut folders = book.resources.iter();
+    let deserted = folders.any(|row| knowers.holders(row.inner).within(left));
+    let most_groups = MAX_OUTER_GROUPS - usize::from(deserted);
     let mut outer = Layer::build(
         random,
         users,
         wished,
-        shape.outer_groups.min(MAX_OUTER_GROUPS),
+        shape.outer_groups.min(most_groups),
         MAX_OUTER_TOKENS,
     );
+    if deserted && !outer.sets.contains(&UserSet::EMPTY) {
+        outer.sets.push(UserSet::EMPTY);
+    }
     outer.fill(random, shape.outer_tokens.min(MAX_OUTER_TOKENS));
     outer.stir(random);
     book.outer_tokens = outer
@@ -448,7 +466,7 @@ pub fn book(random: &mut Random, shape: &Shape) -> Book {
     // Each resource's key; a list without one shrinks to one of its holders.
     for place in 0..book.resources.len() {
         let mut row = book.resources[place];
-        let holders = knowers.holders(row.inner);
+        let holders = knowers.holders(row.inner).minus(left);
         if random.chance(1, 3) {
             // A list that is deep in the outer layer, if one is found.
             let sets = (0..8).filter_map(|_| random.pick(&book.outer_vertices));
@@ -456,7 +474,7 @@ pub fn book(random: &mut Random, shape: &Shape) -> Book {
             row.list = inside.max_by_key(|set| set.size()).unwrap_or(row.list);
         }
         if needs_key(&row) && book.outer_vertex_of(row.list).is_none() {
-            row.list = member(random, holders).map_or(row.list, UserSet::alone);
+            row.list = member(random, holders).map_or(UserSet::EMPTY, UserSet::alone);
         }
         row.outer = if needs_key(&row) {
             book.outer_vertex_of(row.list)
@@ -468,22 +486,82 @@ pub fn book(random: &mut Random, shape: &Shape) -> Book {
     book
 }
 
+/// The book with spare outer groups until there are so many, and then with
+/// spare outer tokens until there are so many, as far as there are any. Each
+/// new group names the user, so that it is in no cover of a set without them.
+pub fn padded(random: &mut Random, book: &Book, user: User, groups: usize, tokens: usize) -> Book {
+    let mut book = book.clone();
+    let mut layer = Layer {
+        sets: std::mem::take(&mut book.outer_vertices),
+        tokens: Vec::new(),
+    };
+    for token in &book.outer_tokens {
+        layer.tokens.push((token.from.index(), token.to.index()));
+    }
+    let own = |layer: &Layer, user: User| {
+        let alone = UserSet::alone(user);
+        layer.sets.iter().position(|&set| set == alone)
+    };
+    // Each from one that names the user, mostly the one before it, and from
+    // another user's own vertex.
+    let mut bases: Vec<usize> = own(&layer, user).into_iter().collect();
+    let most = usize::from(book.users) + groups;
+    for _ in 0..64 * groups {
+        let last = bases.last().copied().filter(|_| random.chance(7, 8));
+        let Some(base) = last.or_else(|| random.pick(&bases)) else {
+            break;
+        };
+        let set = layer.sets[base];
+        let Some(other) = member(random, book.joined().minus(set)) else {
+            bases.push(bases[0]);
+            continue;
+        };
+        let set = set.with(other);
+        if layer.sets.len() >= most {
+            break;
+        }
+        if let (Some(from), false) = (own(&layer, other), layer.sets.contains(&set)) {
+            let place = layer.sets.len();
+            layer.sets.push(set);
+            layer.tokens.extend([(base, place), (from, place)]);
+            bases.push(place);
+        }
+    }
+    layer.fill(random, tokens);
+    let (sets, tokens) = (layer.sets, layer.tokens);
+    book.outer_vertices = sets;
+    let token = |&(from, to): &(usize, usize)| OuterToken {
+        from: OuterVertex::at(from),
+        to: OuterVertex::at(to),
+    };
+    book.outer_tokens = tokens.iter().map(token).collect();
+    book
+}
+
 /// A random request on the book: mostly one that is accepted, sometimes one
-/// that is not; some are chosen for the locks that they need. Nobody joins
-/// beyond `most_users`.
+/// that is not; some are chosen for the locks that they need, some for those
+/// who have left. Nobody joins while `most_users` are there and have not left.
 pub fn request(random: &mut Random, book: &Book, most_users: usize) -> Request {
     if random.chance(1, 6) {
         if let Some(request) = locking_request(random, book) {
             return request;
         }
     }
+    if random.chance(1, 8) {
+        if let Some(request) = leaving_request(random, book) {
+            return request;
+        }
+    }
     plain_request(random, book, most_users)
 }
 
-/// The same without those that are chosen for their locks.
+/// The same without those that are chosen for their locks or for leavers, and
+/// without leaves.
 pub fn plain_request(random: &mut Random, book: &Book, most_users: usize) -> Request {
     let users = usize::from(book.users);
-    if users == 0 || (users < most_users && random.chance(1, 12)) {
+    let staying = book.staying();
+    let wanted = users < MAX_USERS && (staying.size() as usize) < most_users;
+    if users == 0 || (wanted && (staying.is_empty() || random.chance(1, 12))) {
         return Request::Join;
     }
     if random.chance(1, 24) {
@@ -496,7 +574,7 @@ pub fn plain_request(random: &mut Random, book: &Book, most_users: usize) -> Req
     let r = Resource::at(place);
     let list = book.resources[place].list;
     match random.below(10) {
-        0..=3 => match member(random, book.joined().minus(list)) {
+        0..=3 => match member(random, staying.minus(list)) {
             Some(user) => Request::Grant(r, user),
             None => Request::Insert(List::from(some_list(random, book))),
         },
@@ -512,21 +590,63 @@ pub fn plain_request(random: &mut Random, book: &Book, most_users: usize) -> Req
     }
 }
 
+/// A leave, seldom of the last one or of nobody, and of one of a few the
+/// seldomer the fewer can still join; or a request about somebody who has left.
+fn leaving_request(random: &mut Random, book: &Book) -> Option<Request> {
+    let staying = book.staying();
+    if random.chance(1, 3) {
+        if random.chance(1, 16) {
+            return Some(Request::Leave(User(book.users)));
+        }
+        let user = member(random, staying)?;
+        let enough = match staying.size() {
+            0 | 1 => random.chance(1, 4),
+            2..=8 => random.chance(MAX_USERS - usize::from(book.users), MAX_USERS),
+            _ => true,
+        };
+        return enough.then_some(Request::Leave(user));
+    }
+    let user = member(random, book.leavers)?;
+    let r = Resource::at(random.below(book.resources.len()));
+    Some(match random.below(7) {
+        0 | 1 => Request::Grant(r, user),
+        2 => Request::Insert(List::from(some_list(random, book).with(user))),
+        3 => {
+            // With a stranger too.
+            let list = some_list(random, book).with(user);
+            let stranger = User(book.users);
+            Request::Insert(List {
+                set: list.with(stranger),
+                beyond: stranger.index() >= MAX_USERS || random.chance(1, 2),
+            })
+        }
+        4 => Request::Revoke(r, user),
+        5 => Request::Open(user, r),
+        _ => Request::Leave(user),
+    })
+}
+
 /// A request that mostly locks more than a change of one list asks for: an
 /// insert where kind 1 tokens lead already, a second resource with an inner
 /// vertex, or a grant of one of several to somebody who does not hold it.
 fn locking_request(random: &mut Random, book: &Book) -> Option<Request> {
     let insert = |set| Request::Insert(List::from(set));
+    let staying = book.staying();
     if random.chance(1, 4) {
         let mut tokens = book.inner_tokens.clone();
-        tokens.retain(|token| token.kind == KIND_ACCESS);
+        tokens.retain(|token| {
+            token.kind == KIND_ACCESS && book.inner_vertices[token.to.index()].within(staying)
+        });
         let token = random.pick(&tokens)?;
         return Some(insert(book.inner_vertices[token.to.index()]));
     }
-    let place = random.below(book.resources.len());
-    let inner = book.resources.get(place)?.inner;
-    let holders = InnerKnowers::of(book).holders(inner);
-    let user = member(random, book.joined().minus(holders))?;
+    // Where a leaver is a holder, no list is the holders.
+    let knowers = InnerKnowers::of(book);
+    let held = |place: usize| Some(knowers.holders(book.resources.get(place)?.inner));
+    let mut places = (0..8).map(|_| random.below(book.resources.len()));
+    let place = places.find(|&place| held(place).is_some_and(|set| set.within(staying)))?;
+    let (inner, holders) = (book.resources[place].inner, held(place)?);
+    let user = member(random, staying.minus(holders))?;
     let mut others = book.resources.iter().enumerate();
     if others.any(|(other, row)| other != place && row.inner == inner && row.list == holders) {
         Some(Request::Grant(Resource::at(place), user))
@@ -535,15 +655,17 @@ fn locking_request(random: &mut Random, book: &Book) -> Option<Request> {
     }
 }
 
-/// A list for an insert: any set, or one that is there already.
+/// A list for an insert, without leavers: any set, or one that is there
+/// already.
 fn some_list(random: &mut Random, book: &Book) -> UserSet {
-    let all = book.joined();
+    let all = book.staying();
     let set = match random.below(4) {
         0 => random.pick(&book.inner_vertices).unwrap_or(all),
         1 => random.pick(&book.outer_vertices).unwrap_or(all),
         2 => subset(random, all).users().take(3).collect(),
         _ => subset(random, all),
     };
+    let set = set.common(all);
     if set.is_empty() {
         member(random, all).map_or(all, UserSet::alone)
     } else {
@@ -602,7 +724,7 @@ fn damage_once(random: &mut Random, book: &mut Book) {
     let resource = random.below(book.resources.len());
     let vertex = random.below(inner);
     let outer_vertex = random.below(outer);
-    match random.below(20) {
+    match random.below(21) {
         0 => book.mode = [0, 1, 2, 256, 65535][random.below(5)],
         1 => book.users = [0, 1, 63, 64, 65, 255, 65535][random.below(7)],
         2 => {
@@ -693,6 +815,7 @@ fn damage_once(random: &mut Random, book: &mut Book) {
                 row.outer = (number != 65535).then_some(OuterVertex(number));
             }
         }
+        19 => book.leavers.0 ^= flip.0,
         _ => {
             let set = UserSet(random.next()).common(book.joined());
             if random.chance(1, 2) {
@@ -711,8 +834,8 @@ pub fn damage_bytes(random: &mut Random, bytes: &[u8]) -> Vec<u8> {
         0 => bytes.truncate(random.below(bytes.len() + 1)),
         1 => bytes.extend((0..random.between(1, 16)).map(|i| i as u8)),
         2 => {
-            // The head alone.
-            let at = random.below(bytes.len().min(17));
+            // The header and the set of leavers alone.
+            let at = random.below(bytes.len().min(25));
             if let Some(byte) = bytes.get_mut(at) {
                 *byte = random.next() as u8;
             }

@@ -26,12 +26,13 @@ pub fn report(given: &[u8]) -> String {
 fn sound(book: &SoundBook) -> String {
     let head = book.book().head();
     let counts = [
-        ("users", head.users),
-        ("folders", head.resources),
-        ("inner vertices", head.inner_vertices),
-        ("inner tokens", head.inner_tokens),
-        ("outer vertices", head.outer_vertices),
-        ("outer tokens", head.outer_tokens),
+        ("users", u32::from(head.users)),
+        ("folders", u32::from(head.resources)),
+        ("inner vertices", u32::from(head.inner_vertices)),
+        ("inner tokens", u32::from(head.inner_tokens)),
+        ("outer vertices", u32::from(head.outer_vertices)),
+        ("outer tokens", u32::from(head.outer_tokens)),
+        ("leavers", head.leavers.size()),
     ];
     let mut text = format!("sound\nmode {}\n", book.mode().word());
     for (name, count) in counts {

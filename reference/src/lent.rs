@@ -57,6 +57,7 @@ impl Tables<'_> {
         Book {
             mode: head.mode,
             users: head.users,
+            leavers: head.leavers,
             inner_vertices: read_rows(used(0)),
             inner_tokens: read_rows(used(1)),
             outer_vertices: read_rows(used(2)),
@@ -138,7 +139,7 @@ pub fn join(
     change(head, tables, orders, |book, room| book.join(room))
 }
 
-/// Insert. Refusals: 13, 12, 1, 4, 3, 7, 8, 9, 10.
+/// Insert. Refusals: 13, 12, 1, 15, 4, 3, 7, 8, 9, 10.
 pub fn insert(
     head: &Head,
     tables: &mut Tables,
@@ -150,7 +151,7 @@ pub fn insert(
     })
 }
 
-/// Grant. Refusals: 13, 12, 1, 5, 7, 8, 9, 10.
+/// Grant. Refusals: 13, 12, 1, 15, 5, 7, 8, 9, 10.
 pub fn grant(
     head: &Head,
     tables: &mut Tables,
@@ -163,7 +164,7 @@ pub fn grant(
     })
 }
 
-/// Revoke. Refusals: 13, 12, 1, 6, 7, 8, 9, 10.
+/// Revoke. Refusals: 13, 12, 1, 6, 7, 9, 10.
 pub fn revoke(
     head: &Head,
     tables: &mut Tables,
@@ -174,6 +175,16 @@ pub fn revoke(
     change(head, tables, orders, |book, room| {
         book.revoke(Resource(r), User(u), room)
     })
+}
+
+/// Leave. Refusals: 13, 12, 1, 15, 7, 9, 10.
+pub fn leave(
+    head: &Head,
+    tables: &mut Tables,
+    u: u16,
+    orders: &mut [u16],
+) -> Result<(Head, usize), Refusal> {
+    change(head, tables, orders, |book, room| book.leave(User(u), room))
 }
 
 /// View. Refusals: 13, 12, 1.
@@ -216,6 +227,7 @@ fn request_of(row: &[u64]) -> Option<Request> {
             User::given(row[2]),
         )),
         4 => Some(Request::Open(User::given(row[1]), Resource::given(row[2]))),
+        5 => Some(Request::Leave(User::given(row[1]))),
         _ => None,
     }
 }
@@ -234,11 +246,11 @@ fn answer_rows(answer: &Answer) -> Vec<[u16; 3]> {
 
 /// Serves several requests. Request rows are (0, _, _) join; (1, set, b)
 /// insert, where b other than 0 says that the list also names a user above
-/// 63; (2, r, u) grant; (3, r, u) revoke; (4, u, r) open. Answer rows are
-/// the refusal's number or 0, with 11 the view and else 0, and the count of
-/// rows given. Answers the head after all and how many order rows were used.
-/// Refusals of the whole call: 13, 12, and 10 if there are fewer answer rows
-/// than request rows.
+/// 63; (2, r, u) grant; (3, r, u) revoke; (4, u, r) open; (5, u, _) leave.
+/// Answer rows are the refusal's number or 0, with 11 the view and else 0, and
+/// the count of rows given. Answers the head after all and how many order rows
+/// were used. Refusals of the whole call: 13, 12, and 10 if there are fewer
+/// answer rows than request rows.
 pub fn serve(
     head: &Head,
     tables: &mut Tables,

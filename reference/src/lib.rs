@@ -12,7 +12,7 @@
 //! | [`book`] | the tables, their limits, the [`Head`](book::Head) |
 //! | [`mod@derive`] | what a user derives by tokens and hashing; views |
 //! | [`sound`] | the rules S1 to S8, and where one is broken first |
-//! | [`requests`] | join, insert, grant, revoke, and their orders |
+//! | [`requests`] | join, insert, grant, revoke, leave, and their orders |
 //! | [`open`] | the chains of an open folder |
 //! | [`refusal`] | the numbers of a no |
 //! | [`bytes`] | the book as bytes, its sections |

@@ -12,8 +12,8 @@ reference: an independent model of the two-layer book
 reference < requests
     Runs the request program: the first line is `delta` or `full`, each
     further line a request, `join`, `insert u u ..`, `grant r u`,
-    `revoke r u` or `open u r`. Each is answered with `ok N` and N rows, or
-    with `no K`.
+    `revoke r u`, `leave u` or `open u r`. Each is answered with `ok N` and
+    N rows, or with `no K`.
 
 reference --inspect < book
     Runs the check program: of bytes that are a book it prints `sound` and the

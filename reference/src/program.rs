@@ -210,6 +210,7 @@ pub fn request(line: &[u8]) -> Option<Request> {
         b"insert" => list(rest).map(Request::Insert),
         b"grant" => two(rest).map(|(r, u)| Request::Grant(Resource::given(r), User::given(u))),
         b"revoke" => two(rest).map(|(r, u)| Request::Revoke(Resource::given(r), User::given(u))),
+        b"leave" => one(rest).map(|u| Request::Leave(User::given(u))),
         b"open" => two(rest).map(|(u, r)| Request::Open(User::given(u), Resource::given(r))),
         _ => None,
     }
@@ -240,6 +241,12 @@ fn list(rest: &[u8]) -> Option<List> {
         set,
         beyond: !beyond.is_empty(),
     })
+}
+
+/// Exactly one number.
+fn one(rest: &[u8]) -> Option<u64> {
+    let (number, rest) = next_number(rest)?;
+    rest.is_empty().then_some(number)
 }
 
 /// Exactly two numbers.

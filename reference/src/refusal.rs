@@ -40,7 +40,7 @@ impl View {
 /// A call said no and changed nothing.
 #[derive(Clone, Copy, Debug, PartialEq, Eq)]
 pub struct Refusal {
-    /// The number: 1 to 14, 20 to 24, 31 to 38.
+    /// The number: 1 to 15, 20 to 24, 31 to 38.
     pub number: u8,
     /// With 11, the view.
     pub view: Option<View>,
@@ -75,6 +75,8 @@ impl Refusal {
     pub const TABLE_SHORT: Refusal = Refusal::no(13);
     /// 14: a request line is malformed.
     pub const MALFORMED: Refusal = Refusal::no(14);
+    /// 15: someone who has left is to be listed, or to leave again.
+    pub const HAS_LEFT: Refusal = Refusal::no(15);
 
     const fn no(number: u8) -> Refusal {
         Refusal {

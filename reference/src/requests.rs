@@ -76,6 +76,8 @@ pub enum Request {
     Grant(Resource, User),
     /// A user less on the list.
     Revoke(Resource, User),
+    /// A user less on every list, for good.
+    Leave(User),
     /// The way to the keys.
     Open(User, Resource),
 }
@@ -97,6 +99,7 @@ impl fmt::Display for Request {
             }
             Request::Grant(r, u) => write!(f, "grant {} {}", r.0, u.0),
             Request::Revoke(r, u) => write!(f, "revoke {} {}", r.0, u.0),
+            Request::Leave(u) => write!(f, "leave {}", u.0),
             Request::Open(u, r) => write!(f, "open {} {}", u.0, r.0),
         }
     }
@@ -129,6 +132,7 @@ impl SoundBook {
             Request::Insert(list) => self.insert(list, room).map(Answer::Orders),
             Request::Grant(r, u) => self.grant(r, u, room).map(Answer::Orders),
             Request::Revoke(r, u) => self.revoke(r, u, room).map(Answer::Orders),
+            Request::Leave(u) => self.leave(u, room).map(Answer::Orders),
             Request::Open(u, r) => self.open(u, r, room).map(Answer::Chains),
         }
     }
@@ -143,11 +147,15 @@ impl SoundBook {
         work.finish(room)
     }
 
-    /// Insert: a new resource for the list. Refusals: 1, 4, 3, 7, 8, 9, 10.
+    /// Insert: a new resource for the list. Refusals: 1, 15, 4, 3, 7, 8, 9,
+    /// 10.
     pub fn insert(&mut self, list: impl Into<List>, room: usize) -> Result<Vec<Order>, Refusal> {
         let List { set, beyond } = list.into();
         if beyond || !set.within(self.0.joined()) {
             return Err(Refusal::NOT_THERE);
+        }
+        if !set.common(self.0.leavers).is_empty() {
+            return Err(Refusal::HAS_LEFT);
         }
         if set.is_empty() {
             return Err(Refusal::EMPTY_LIST);
@@ -161,9 +169,13 @@ impl SoundBook {
         work.finish(room)
     }
 
-    /// Grant: the user joins the list. Refusals: 1, 5, 7, 8, 9, 10.
+    /// Grant: the user goes on the list. Refusals: 1, 15, 5, 7, 8, 9, 10.
     pub fn grant(&mut self, r: Resource, u: User, room: usize) -> Result<Vec<Order>, Refusal> {
-        if self.row_for(r, u)?.list.names(u) {
+        let listed = self.row_for(r, u)?.list.names(u);
+        if self.0.leavers.names(u) {
+            return Err(Refusal::HAS_LEFT);
+        }
+        if listed {
             return Err(Refusal::LISTED);
         }
         let mode = self.mode();
@@ -172,13 +184,27 @@ impl SoundBook {
         work.finish(room)
     }
 
-    /// Revoke: the user leaves the list. Refusals: 1, 6, 7, 9, 10.
+    /// Revoke: the user comes off the list. Refusals: 1, 6, 7, 9, 10.
     pub fn revoke(&mut self, r: Resource, u: User, room: usize) -> Result<Vec<Order>, Refusal> {
         if !self.row_for(r, u)?.list.names(u) {
             return Err(Refusal::NOT_LISTED);
         }
         let mut work = Work::begin(&mut self.0);
         work.revoke(r, u);
+        work.finish(room)
+    }
+
+    /// Leave: the user comes off every list, and never on one again.
+    /// Refusals: 1, 15, 7, 9, 10.
+    pub fn leave(&mut self, u: User, room: usize) -> Result<Vec<Order>, Refusal> {
+        if u.0 >= self.0.users {
+            return Err(Refusal::NOT_THERE);
+        }
+        if self.0.leavers.names(u) {
+            return Err(Refusal::HAS_LEFT);
+        }
+        let mut work = Work::begin(&mut self.0);
+        work.leave(u);
         work.finish(room)
     }
 
@@ -196,9 +222,10 @@ impl SoundBook {
 struct Work<'a> {
     book: &'a mut Book,
     orders: Vec<Order>,
-    /// The users before, and the tables' lengths: nothing but a resource's
-    /// row ever changes once it is there.
+    /// The users and leavers before, and the tables' lengths: nothing but a
+    /// resource's row ever changes once it is there.
     users: u16,
+    leavers: UserSet,
     lengths: [usize; 5],
     /// Changed resource rows as they were, in the order of the changes.
     rows: Vec<(Resource, ResourceRow)>,
@@ -208,6 +235,7 @@ impl<'a> Work<'a> {
     fn begin(book: &'a mut Book) -> Work<'a> {
         Work {
             users: book.users,
+            leavers: book.leavers,
             lengths: [
                 book.inner_vertices.len(),
                 book.inner_tokens.len(),
@@ -244,6 +272,7 @@ impl<'a> Work<'a> {
             self.book.resources[r.index()] = row;
         }
         self.book.users = self.users;
+        self.book.leavers = self.leavers;
         self.book.inner_vertices.truncate(inner_vertices);
         self.book.inner_tokens.truncate(inner_tokens);
         self.book.outer_vertices.truncate(outer_vertices);
@@ -338,6 +367,15 @@ impl<'a> Work<'a> {
         let list = self.book.resources[r.index()].list.without(u);
         self.set_list(r, list);
         self.lock(r, list);
+    }
+
+    fn leave(&mut self, u: User) {
+        for place in 0..self.book.resources.len() {
+            if self.book.resources[place].list.names(u) {
+                self.revoke(Resource::at(place), u);
+            }
+        }
+        self.book.leavers = self.book.leavers.with(u);
     }
 
     /// Lock r for the set.

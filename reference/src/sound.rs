@@ -14,7 +14,8 @@ use crate::sets::UserSet;
 /// A rule of the sound book.
 #[derive(Clone, Copy, Debug, PartialEq, Eq, PartialOrd, Ord, Hash)]
 pub enum Rule {
-    /// Mode, kinds, counts, vertex numbers and sets are possible ones.
+    /// Mode, kinds, counts, vertex numbers and sets are possible ones; no
+    /// list names a leaver.
     S1,
     /// Every joined user has an own vertex, which no token to a key that
     /// derives enters; only the outer layer holds an empty set.
@@ -56,6 +57,8 @@ impl Rule {
 /// Where a rule is broken.
 #[derive(Clone, Copy, Debug, PartialEq, Eq)]
 pub enum At {
+    /// In the set of leavers.
+    Leavers,
     /// In that row of that section.
     Row(Section, usize),
     /// In no row: a joined user's own vertex is missing.
@@ -67,7 +70,7 @@ pub enum At {
 pub struct Broken {
     /// The rule.
     pub rule: Rule,
-    /// The first row that breaks it.
+    /// What breaks it first.
     pub at: At,
 }
 
@@ -82,8 +85,8 @@ pub fn sound(book: &Book) -> Result<(), Rule> {
     }
 }
 
-/// The first rule that the rows of the book break, and where. Mode and counts
-/// stand in no row, and are judged before.
+/// The first rule that the leavers and the rows of the book break, and where.
+/// Mode and counts are judged before.
 pub fn first_broken(book: &Book) -> Option<Broken> {
     let judge = Judge::of(book);
     Rule::ALL.into_iter().find_map(|rule| judge.first(rule))
@@ -166,8 +169,12 @@ impl<'a> Judge<'a> {
     }
 
     /// Where the rule is broken first: section by section, and row by row in
-    /// each. A missing vertex comes before all rows.
+    /// each. The leavers and a missing vertex come before all rows.
     fn first(&self, rule: Rule) -> Option<Broken> {
+        if rule == Rule::S1 && !self.book.leavers.within(self.book.joined()) {
+            let at = At::Leavers;
+            return Some(Broken { rule, at });
+        }
         let missing = || self.inner.misses_an_own_vertex() || self.outer.misses_an_own_vertex();
         if rule == Rule::S2 && missing() {
             let at = At::Missing;
@@ -190,7 +197,7 @@ impl<'a> Judge<'a> {
     fn first_resource(&self, rule: Rule) -> Option<usize> {
         let breaks: &dyn Fn(&ResourceRow) -> bool = match rule {
             Rule::S1 => &|row| {
-                !row.list.within(self.book.joined())
+                !row.list.within(self.book.staying())
                     || !self.inner.has(row.inner.index())
                     || row
                         .outer

@@ -20,49 +20,61 @@ pub enum Breach {
     OtherOpen(usize, Resource, User),
     /// Another folder does not open for somebody who is on its list.
     OtherShut(usize, Resource, User),
-    /// The folder named opens for somebody who is on neither list.
-    NamedOpen(usize, Resource, User),
-    /// The folder named does not open for somebody who is on both lists.
-    NamedShut(usize, Resource, User),
+    /// A folder that is changed opens for somebody who is on neither list.
+    ChangedOpen(usize, Resource, User),
+    /// A folder that is changed does not open for somebody who is on both
+    /// lists.
+    ChangedShut(usize, Resource, User),
     /// Stopped there, so many orders obeyed again do not give what they must.
     Again(usize, usize),
     /// After all orders the host has not what the book has.
     End(String),
 }
 
+/// A folder's list before a request and after it; a new folder has the one it
+/// comes with before it, too.
+#[derive(Clone, Copy, Debug)]
+struct Lists {
+    before: UserSet,
+    after: UserSet,
+    /// Whether the request changes the folder.
+    changed: bool,
+}
+
 /// A request at a host, order by order.
 #[derive(Clone, Debug)]
 pub struct Watch {
     task: Task,
-    /// The folder that the request names, if it names one.
-    named: Option<Resource>,
-    /// Every folder's list before the request and after it; a new folder has
-    /// the one it comes with before it, too.
-    lists: Vec<(UserSet, UserSet)>,
+    /// Every folder's.
+    lists: Vec<Lists>,
     /// The host after no order, after one, and so on to all.
     hosts: Vec<Host>,
 }
 
-/// The folder that a request names, and the lists before and after it.
-fn lists(book: &Book, request: &Request) -> (Option<Resource>, Vec<(UserSet, UserSet)>) {
-    let lists = book.resources.iter().map(|row| (row.list, row.list));
-    let mut lists: Vec<_> = lists.collect();
-    let named = match *request {
-        Request::Insert(list) => {
-            lists.push((list.set, list.set));
-            Some(Resource::at(book.resources.len()))
+/// The folders' lists before and after a request.
+fn lists(book: &Book, request: &Request) -> Vec<Lists> {
+    let lists = |place: usize, before: UserSet| {
+        let r = Resource::at(place);
+        let (after, changed) = match *request {
+            Request::Grant(named, u) if named == r => (before.with(u), true),
+            Request::Revoke(named, u) if named == r => (before.without(u), true),
+            Request::Leave(u) if before.names(u) => (before.without(u), true),
+            Request::Insert(_) => (before, place == book.resources.len()),
+            _ => (before, false),
+        };
+        Lists {
+            before,
+            after,
+            changed,
         }
-        Request::Grant(r, u) => {
-            lists[r.index()].1 = lists[r.index()].0.with(u);
-            Some(r)
-        }
-        Request::Revoke(r, u) => {
-            lists[r.index()].1 = lists[r.index()].0.without(u);
-            Some(r)
-        }
-        Request::Join | Request::Open(..) => None,
     };
-    (named, lists)
+    let new = match request {
+        Request::Insert(list) => Some(list.set),
+        _ => None,
+    };
+    let there = book.resources.iter().map(|row| row.list);
+    let all = there.chain(new).enumerate();
+    all.map(|(place, list)| lists(place, list)).collect()
 }
 
 impl Watch {
@@ -75,11 +87,9 @@ impl Watch {
             host.obey(row, task.joiner).map_err(Breach::NotObeyed)?;
             hosts.push(host.clone());
         }
-        let (named, lists) = lists(book, request);
         Ok(Watch {
             task,
-            named,
-            lists,
+            lists: lists(book, request),
             hosts,
         })
     }
@@ -100,17 +110,16 @@ impl Watch {
         let derived = host.derive(user);
         let mut breaches = Vec::new();
         // A folder that is not encrypted yet does not count.
-        for (place, (before, after)) in self.lists.iter().enumerate().take(host.folders()) {
+        for (place, lists) in self.lists.iter().enumerate().take(host.folders()) {
             let folder = Resource::at(place);
             let opens = host.opens(&derived, place);
-            let named = self.named == Some(folder);
-            match (before.names(user), after.names(user)) {
-                (true, true) if !opens && named => {
-                    breaches.push(Breach::NamedShut(stop, folder, user));
+            match (lists.before.names(user), lists.after.names(user)) {
+                (true, true) if !opens && lists.changed => {
+                    breaches.push(Breach::ChangedShut(stop, folder, user));
                 }
                 (true, true) if !opens => breaches.push(Breach::OtherShut(stop, folder, user)),
-                (false, false) if opens && named => {
-                    breaches.push(Breach::NamedOpen(stop, folder, user));
+                (false, false) if opens && lists.changed => {
+                    breaches.push(Breach::ChangedOpen(stop, folder, user));
                 }
                 (false, false) if opens => breaches.push(Breach::OtherOpen(stop, folder, user)),
                 _ => {}

@@ -3,13 +3,14 @@
 
 mod common;
 
-use common::{number, p5};
+use common::{number, p5, set};
 use fenstubble_reference::book::{Head, SoundBook};
-use fenstubble_reference::bytes::{self, LIMITS, WIDTHS};
+use fenstubble_reference::bytes::{self, Version, LIMITS, WIDTHS};
 use fenstubble_reference::generate::{self, Random, Shape};
 use fenstubble_reference::lent::{self, Store};
 use fenstubble_reference::refusal::{Refusal, View};
 use fenstubble_reference::requests::{Answer, Request};
+use fenstubble_reference::sets::UserSet;
 
 /// The refusal of every call that takes tables, with arguments that would
 /// get other numbers as well; nothing may be touched.
@@ -25,6 +26,7 @@ fn every_call(head: &Head, store: &mut Store, bytes: &[u8]) -> Vec<u8> {
         number(lent::insert(head, &mut tables, 0, &mut list)),
         number(lent::grant(head, &mut tables, 999, 999, &mut list)),
         number(lent::revoke(head, &mut tables, 999, 999, &mut list)),
+        number(lent::leave(head, &mut tables, 999, &mut list)),
         number(lent::view(head, &tables, 999, 999)),
         number(lent::open(head, &tables, 999, 999, &mut list)),
         number(lent::serve(
@@ -52,9 +54,9 @@ fn thirteen_before_all() {
         for length in [LIMITS[k] * WIDTHS[k] - 1, 0] {
             let mut store = whole.clone();
             store.parts[k].truncate(length);
-            assert_eq!(every_call(&head, &mut store, b""), [13; 9]);
+            assert_eq!(every_call(&head, &mut store, b""), [13; 10]);
             let unsound = Head { mode: 9, ..head };
-            assert_eq!(every_call(&unsound, &mut store, b""), [13; 9]);
+            assert_eq!(every_call(&unsound, &mut store, b""), [13; 10]);
             assert_eq!(
                 lent::broken_rule(&head, &store.lend()),
                 Err(Refusal::TABLE_SHORT)
@@ -72,7 +74,7 @@ fn thirteen_before_all() {
 
 /// What [`every_call`] gets on tables without a sound book: 12, but for the
 /// read of bytes that are too few.
-const UNSOUND: [u8; 9] = [12, 12, 12, 12, 12, 12, 12, 12, 24];
+const UNSOUND: [u8; 10] = [12, 12, 12, 12, 12, 12, 12, 12, 12, 24];
 
 #[test]
 fn twelve_before_the_rest() {
@@ -152,9 +154,27 @@ fn twelve_before_the_rest() {
             outer_tokens: 65535,
             ..head
         },
+        // Leavers who are on a list, or have not joined.
+        Head {
+            leavers: set(&[0]),
+            ..head
+        },
+        Head {
+            leavers: set(&[2]),
+            ..head
+        },
+        Head {
+            leavers: set(&[3]),
+            ..head
+        },
+        Head {
+            leavers: set(&[63]),
+            ..head
+        },
         Head {
             mode: 65535,
             users: 65535,
+            leavers: UserSet(u64::MAX),
             resources: 65535,
             inner_vertices: 65535,
             inner_tokens: 65535,
@@ -182,6 +202,10 @@ fn the_order_of_the_rest() {
     assert_eq!(number(lent::insert(&head, &mut tables, 1 << 63, none)), 1);
     assert_eq!(number(lent::insert(&head, &mut tables, 0, none)), 4);
     assert_eq!(number(lent::insert(&head, &mut tables, 1, none)), 10);
+    for u in [3, 63, 64, 65535] {
+        assert_eq!(number(lent::leave(&head, &mut tables, u, none)), 1);
+    }
+    assert_eq!(number(lent::leave(&head, &mut tables, 0, none)), 10);
     for (a, b) in [(2, 0), (0, 3), (65535, 0), (0, 65535), (2, 3)] {
         assert_eq!(number(lent::grant(&head, &mut tables, a, b, none)), 1);
         assert_eq!(number(lent::revoke(&head, &mut tables, a, b, none)), 1);
@@ -234,14 +258,24 @@ fn read_write_and_sections() {
 
         // The sections are stretches of the bytes themselves.
         let counts = head.counts();
-        let mut start = 17;
-        for k in 0..5 {
-            let (mut cell, mut place) = (77, 77);
-            let stretch = lent::section(&written, k as u16, &mut cell, &mut place);
-            assert_eq!((cell, place), (0, 0));
-            assert_eq!(stretch.len(), counts[k] * WIDTHS[k]);
-            assert!(std::ptr::eq(stretch.as_ptr(), written[start..].as_ptr()));
-            start += stretch.len();
+        let old = bytes::write_as(&book, Version::One);
+        for (bytes, start) in [(&old, 17), (&written, 25)] {
+            if start == 17 && !book.leavers.is_empty() {
+                continue;
+            }
+            let mut start = start;
+            for k in 0..5 {
+                let (mut cell, mut place) = (77, 77);
+                let stretch = lent::section(bytes, k as u16, &mut cell, &mut place);
+                assert_eq!((cell, place), (0, 0));
+                assert_eq!(stretch.len(), counts[k] * WIDTHS[k]);
+                assert!(std::ptr::eq(stretch.as_ptr(), bytes[start..].as_ptr()));
+                start += stretch.len();
+            }
+            // Of either version the tables get the same rows.
+            let mut again = Store::filled(0xC3);
+            assert_eq!(lent::read(bytes, &mut again.lend()), Ok(head));
+            assert_eq!(again, other);
         }
         for k in [5, 6, 255, 256, 65535] {
             let (mut cell, mut place) = (77, 77);
@@ -269,7 +303,7 @@ fn read_write_and_sections() {
 fn every_byte_of_the_head_counts() {
     let written = bytes::write(p5().book());
     assert!(bytes::read(&written).is_ok());
-    for at in 0..17 {
+    for at in 0..25 {
         for value in 0..=255 {
             let mut bytes = written.clone();
             bytes[at] = value;
@@ -301,6 +335,7 @@ fn row_of(request: &Request) -> [u64; 3] {
         Request::Insert(list) => [1, list.set.0, u64::from(list.beyond)],
         Request::Grant(r, u) => [2, u64::from(r.0), u64::from(u.0)],
         Request::Revoke(r, u) => [3, u64::from(r.0), u64::from(u.0)],
+        Request::Leave(u) => [5, u64::from(u.0), 7],
         Request::Open(u, r) => [4, u64::from(u.0), u64::from(r.0)],
     }
 }
@@ -325,6 +360,7 @@ fn serve_the_sample() {
     let after = Head {
         mode: 1,
         users: 2,
+        leavers: UserSet::EMPTY,
         resources: 1,
         inner_vertices: 3,
         inner_tokens: 2,
@@ -360,7 +396,11 @@ fn serve_odd_rows() {
     let untouched = store.clone();
     let big = u64::from(u16::MAX) + 1;
     let requests = [
-        [5, 0, 0],
+        [6, 0, 0],
+        [5, 3, 0],
+        [5, big, 0],
+        [5, big + 2, u64::MAX],
+        [5, 1 << 63, 0],
         [u64::MAX, 0, 0],
         [256, 0, 0],
         [2, big, 1],
@@ -390,7 +430,7 @@ fn serve_odd_rows() {
         &mut orders,
     );
     assert_eq!(done, Ok((head, 0)));
-    let numbers = [1, 1, 1, 1, 1, 1, 1, 1, 1, 1, 1, 4, 1, 5, 6, 11];
+    let numbers = [1, 1, 1, 1, 1, 1, 1, 1, 1, 1, 1, 1, 1, 1, 1, 4, 1, 5, 6, 11];
     let expected: Vec<u16> = numbers
         .iter()
         .flat_map(|&number| [number, u16::from(number == 11), 0])
@@ -416,6 +456,69 @@ fn serve_odd_rows() {
     // No request at all.
     let done = lent::serve(&head, &mut store.lend(), &[1, 2], &mut [], &mut []);
     assert_eq!(done, Ok((head, 0)));
+}
+
+#[test]
+fn serve_a_leave() {
+    // P5: folder 0 for {0,2}, folder 1 for {0,1}. 2 leaves: folder 0 for {0}.
+    // Then nothing lists 2, and the third number never matters.
+    let book = p5();
+    let mut store = Store::of(book.book(), 4);
+    let requests = [
+        [5, 2, u64::MAX],
+        [5, 2, 0],
+        [2, 1, 2],
+        [1, 4, 0],
+        [1, 12, 0],
+        [3, 0, 2],
+        [4, 2, 0],
+        [0, 0, 0],
+        [5, 3, 5],
+        [1, 8, 0],
+    ]
+    .concat();
+    let mut answers = [77; 30];
+    let mut orders = [88; 3 * 3 + 1];
+    let done = lent::serve(
+        &book.book().head(),
+        &mut store.lend(),
+        &requests,
+        &mut answers,
+        &mut orders,
+    );
+    let (head, used) = done.unwrap();
+    assert_eq!((head.users, head.leavers, used), (4, set(&[2, 3]), 3));
+    let expected = [
+        [0, 0, 1],
+        [15, 0, 0],
+        [15, 0, 0],
+        [15, 0, 0],
+        [1, 0, 0],
+        [6, 0, 0],
+        [11, 1, 0],
+        [0, 0, 2],
+        [0, 0, 0],
+        [15, 0, 0],
+    ];
+    assert_eq!(answers, expected.as_flattened());
+    assert_eq!(orders, [3, 0, 0, 4, 4, 0, 1, 5, 0, 88]);
+}
+
+#[test]
+fn the_head_in_numbers() {
+    let head = Head {
+        mode: 1,
+        users: 64,
+        leavers: set(&[0, 15, 17, 34, 63]),
+        resources: 2,
+        inner_vertices: 3,
+        inner_tokens: 4,
+        outer_vertices: 5,
+        outer_tokens: 6,
+    };
+    let numbers = [1, 64, 2, 3, 4, 5, 6, 0x8001, 2, 4, 0x8000];
+    assert_eq!(head.numbers(), numbers);
+    assert_eq!(Head::from_numbers(&numbers), head);
 }
 
 #[test]

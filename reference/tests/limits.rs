@@ -37,6 +37,7 @@ fn refused(book: &mut SoundBook, request: Request, expected: u8) {
             Request::Insert(asked) => lent::insert(&head, &mut tables, asked.set.0, &mut list),
             Request::Grant(r, u) => lent::grant(&head, &mut tables, r.0, u.0, &mut list),
             Request::Revoke(r, u) => lent::revoke(&head, &mut tables, r.0, u.0, &mut list),
+            Request::Leave(u) => lent::leave(&head, &mut tables, u.0, &mut list),
             _ => panic!("not a request that meets a limit"),
         };
         assert_eq!(number(result), expected, "{request}");
@@ -190,6 +191,7 @@ fn seven_before_eight_before_nine() {
     let shape = Shape {
         mode: Mode::Full,
         users: 64,
+        leavers: 0,
         resources: 200,
         inner_groups: 150,
         access_tokens: 100,

@@ -3,7 +3,7 @@
 
 use std::collections::BTreeMap;
 
-use fenstubble_reference::bytes;
+use fenstubble_reference::bytes::{self, Version};
 use fenstubble_reference::generate::{self, Random, Shape};
 
 /// Bytes a row of each section.
@@ -13,6 +13,7 @@ const WIDTHS: [usize; 5] = [8, 5, 8, 4, 12];
 struct Rows<'a> {
     bytes: &'a [u8],
     users: u32,
+    leavers: u64,
     /// Where each section starts, and its rows.
     sections: [(usize, usize); 5],
 }
@@ -83,7 +84,9 @@ impl Rows<'_> {
             (1, _) => {
                 let folder = self.row(4, row);
                 let outer = number(folder, 10, 2);
-                self.strangers(number(folder, 0, 8))
+                let list = number(folder, 0, 8);
+                self.strangers(list)
+                    || (0..64).any(|user| list >> user & 1 == 1 && self.leavers >> user & 1 == 1)
                     || number(folder, 8, 2) >= self.count(0) as u64
                     || (outer != 65535 && outer >= self.count(2) as u64)
             }
@@ -139,6 +142,9 @@ impl Rows<'_> {
     /// The first rule broken, and where.
     fn first(&self) -> Option<(u8, usize)> {
         for rule in 1..=8 {
+            if rule == 1 && self.strangers(self.leavers) {
+                return Some((31, 17));
+            }
             if rule == 2 && self.misses() {
                 return Some((32, 65535));
             }
@@ -163,7 +169,8 @@ fn first(bytes: &[u8]) -> Option<(u8, usize)> {
     if &bytes[..3] != b"TKB" {
         return Some((20, 0));
     }
-    if number(bytes, 3, 2) != 1 {
+    let version = number(bytes, 3, 2);
+    if version != 1 && version != 2 {
         return Some((21, 3));
     }
     if bytes[5] > 1 {
@@ -185,7 +192,7 @@ fn first(bytes: &[u8]) -> Option<(u8, usize)> {
             return Some((23, at));
         }
     }
-    let mut end = 17;
+    let mut end = if version == 1 { 17 } else { 25 };
     let sections = [9, 11, 13, 15, 7].map(|at| count(at) as usize);
     let sections = std::array::from_fn(|k| {
         let start = end;
@@ -198,6 +205,11 @@ fn first(bytes: &[u8]) -> Option<(u8, usize)> {
     let rows = Rows {
         bytes,
         users: u32::from(bytes[6]),
+        leavers: if version == 1 {
+            0
+        } else {
+            number(bytes, 17, 8)
+        },
         sections,
     };
     rows.first()
@@ -219,7 +231,7 @@ fn the_same_by_both() {
             book.mode = book.mode.min(255);
             book.users = book.users.min(255);
         }
-        let mut given = bytes::write(&book);
+        let mut given = bytes::write_as(&book, Version::ALL[round % 2]);
         if random.chance(1, 4) {
             given = generate::damage_bytes(random, &given);
         }

@@ -3,13 +3,14 @@
 use std::collections::BTreeSet;
 
 use fenstubble_reference::book::{Head, SoundBook};
-use fenstubble_reference::bytes;
+use fenstubble_reference::bytes::{self, Version};
 use fenstubble_reference::check;
 use fenstubble_reference::derive::{keys_of, outer_knowers, view, InnerKnowers};
 use fenstubble_reference::generate::{self, Random, Shape};
 use fenstubble_reference::lent::{self, Store};
 use fenstubble_reference::numbers::{InnerVertex, Resource, User};
 use fenstubble_reference::refusal::Refusal;
+use fenstubble_reference::sets::UserSet;
 use fenstubble_reference::sound::{broken_rules, sound, Rule};
 
 #[test]
@@ -20,6 +21,8 @@ fn checked_runs() {
                 assert_eq!(summary.steps, 4000);
                 assert!(summary.accepted > 3000, "{summary}");
                 assert!(summary.from_books > 0, "{summary}");
+                assert!(summary.leaves.iter().all(|&some| some > 20), "{summary}");
+                assert!(summary.answers[15] > 100, "{summary}");
             }
             Err(failure) => panic!("{failure}"),
         }
@@ -37,7 +40,7 @@ fn all_calls(random: &mut Random, head: &Head, store: &mut Store) {
     let (a, b) = (random.next() as u16 % 8, random.next() as u16 % 8);
     let set = random.next() & random.next() & 0xFF;
     let requests: [u64; 12] = std::array::from_fn(|i| match i % 3 {
-        0 => random.next() % 6,
+        0 => random.next() % 7,
         _ => random.next() % 8,
     });
     let mut results: Vec<Option<u8>> = Vec::new();
@@ -51,6 +54,7 @@ fn all_calls(random: &mut Random, head: &Head, store: &mut Store) {
     call!(lent::insert(head, &mut store.lend(), set, &mut list));
     call!(lent::grant(head, &mut store.lend(), a, b, &mut list));
     call!(lent::revoke(head, &mut store.lend(), a, b, &mut list));
+    call!(lent::leave(head, &mut store.lend(), b, &mut list));
     call!(lent::view(head, &store.lend(), a, b));
     call!(lent::open(head, &store.lend(), a, b, &mut list));
     call!(lent::serve(
@@ -100,6 +104,9 @@ fn any_tables() {
                     *count = any[random.below(any.len())];
                 }
             }
+            if random.chance(1, 3) {
+                head.leavers.0 = random.next() >> random.below(64);
+            }
         }
         let mut store = Store::of(&damaged, random.next() as u8);
         all_calls(&mut random, &head, &mut store);
@@ -144,6 +151,7 @@ fn garbage_tables() {
             Head {
                 mode: small(65535),
                 users: small(65535),
+                leavers: UserSet(round as u64),
                 resources: small(65535),
                 inner_vertices: small(65535),
                 inner_tokens: small(65535),
@@ -154,6 +162,7 @@ fn garbage_tables() {
             Head {
                 mode: small(1),
                 users: small(64),
+                leavers: UserSet::first(round as u16 % 3),
                 resources: small(256),
                 inner_vertices: small(64),
                 inner_tokens: small(4096),
@@ -168,7 +177,7 @@ fn garbage_tables() {
 #[test]
 fn any_bytes() {
     let mut random = Random::new(43);
-    let mut read = 0;
+    let mut read = [0; 2];
     let mut seen = BTreeSet::new();
     for round in 0..4000 {
         let shape = if round % 200 == 0 {
@@ -177,7 +186,9 @@ fn any_bytes() {
             Shape::small(&mut random)
         };
         let book = generate::book(&mut random, &shape);
-        let damaged = generate::damage_bytes(&mut random, &bytes::write(&book));
+        let version = Version::ALL[round % 2];
+        let written = bytes::write_as(&book, version);
+        let damaged = generate::damage_bytes(&mut random, &written);
         let mut store = Store::filled(0x77);
         let untouched = store.clone();
         let result = lent::read(&damaged, &mut store.lend());
@@ -185,13 +196,19 @@ fn any_bytes() {
         let stretch = lent::section(&damaged, (round % 7) as u16, &mut cell, &mut place);
         match result {
             Ok(head) => {
-                // Whatever is read is sound, and written again is the same.
-                read += 1;
+                // Whatever is read is sound, and written again is the same, in
+                // version 2.
+                read[round % 2] += 1;
                 assert_eq!(lent::broken_rule(&head, &store.lend()), Ok(None));
-                let mut buffer = vec![0; damaged.len()];
+                let mut same = damaged.clone();
+                if version == Version::One {
+                    same[3] = 2;
+                    same.splice(17..17, [0; 8]);
+                }
+                let mut buffer = vec![0; same.len()];
                 let length = lent::write(&head, &store.lend(), &mut buffer);
-                assert_eq!(length, Ok(damaged.len()));
-                assert_eq!(buffer, damaged);
+                assert_eq!(length, Ok(same.len()));
+                assert_eq!(buffer, same);
                 assert_eq!((cell, place), (u16::from(round % 7 > 4), 0));
             }
             Err(no) => {
@@ -204,7 +221,7 @@ fn any_bytes() {
             }
         }
     }
-    assert!(read > 0);
+    assert!(read.iter().all(|&read| read > 0), "{read:?}");
     assert!(
         (20..=24).chain(31..=38).eq(seen),
         "not every number was met"
@@ -214,7 +231,8 @@ fn any_bytes() {
         let length = random.below(80);
         let mut any: Vec<u8> = (0..length).map(|_| random.next() as u8 & 3).collect();
         if random.chance(3, 4) {
-            for (byte, mark) in any.iter_mut().zip(*b"TKB\x01\0") {
+            let version = random.between(1, 2) as u8;
+            for (byte, mark) in any.iter_mut().zip([b'T', b'K', b'B', version, 0]) {
                 *byte = mark;
             }
         }

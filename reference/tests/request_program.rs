@@ -160,11 +160,13 @@ fn f5_numbers() {
         assert_eq!(after(format!("grant {bad} 0")), "no 14\n", "{bad}");
         assert_eq!(after(format!("open {bad} 0")), "no 14\n", "{bad}");
         assert_eq!(after(format!("revoke 0 {bad}")), "no 14\n", "{bad}");
+        assert_eq!(after(format!("leave {bad}")), "no 14\n", "{bad}");
     }
     assert_eq!(after("insert 0"), "ok 1\n7 1 0\n");
     assert_eq!(after("insert 99999"), "no 1\n");
     assert_eq!(after("open 0 99999"), "no 1\n");
     assert_eq!(after("open 99999 0"), "no 1\n");
+    assert_eq!(after("leave 99999"), "no 1\n");
 }
 
 #[test]
@@ -195,11 +197,18 @@ fn f7_users_above_63() {
     assert_eq!(answer("insert 64"), "no 1\n");
     assert_eq!(answer("grant 0 64"), "no 1\n");
     assert_eq!(answer("revoke 0 64"), "no 1\n");
+    assert_eq!(answer("leave 64"), "no 1\n");
     assert_eq!(answer("open 64 0"), "no 1\n");
     assert_eq!(answer("join"), "no 2\n");
     // 65536 + 63 must not become 63.
     assert_eq!(answer("open 65599 0"), "no 1\n");
+    assert_eq!(answer("leave 65599"), "no 1\n");
     assert_eq!(answer("open 63 0"), "ok 0\n");
+    // A leaver counts among the 64.
+    assert_eq!(
+        answer("leave 63\njoin\nopen 63 0"),
+        "ok 2\n1 64 0\n3 0 64\nno 2\nno 11 1\n"
+    );
     let all_65: String = (0..65).map(|n| format!(" {n}")).collect();
     assert_eq!(answer(&format!("insert{all_65}")), "no 1\n");
     let all_64: String = (0..64).map(|n| format!(" {n}")).collect();
@@ -248,6 +257,16 @@ fn f9_spaces_and_words() {
         "revoke",
         "revoke 0",
         "revoke 0 1 2",
+        "leave",
+        "leave ",
+        "leave 0 ",
+        "leave  0",
+        "leave 0 1",
+        "leave 0 0",
+        " leave 0",
+        "Leave 0",
+        "leave0",
+        "leaves 0",
         "open",
         "open 0",
         "open 0 0 0",
@@ -277,7 +296,6 @@ fn f11_f12_words_of_other_places() {
         "section 0",
         "delta",
         "full",
-        "leave 0",
         "read",
         "write",
         "help",

@@ -73,6 +73,22 @@ fn s1() {
         b.outer_vertices[3].0 |= 1 << 63
     });
     s1("list names no user", &|b| b.resources[1].list.0 |= 1 << 3);
+    s1("leavers name no user", &|b| b.leavers.0 |= 1 << 3);
+    s1("leavers name user 63", &|b| b.leavers.0 |= 1 << 63);
+    // 0 is on both lists, 2 on the first, 1 on the second.
+    for user in 0..3 {
+        s1("a list names a leaver", &|b| b.leavers = set(&[user]));
+    }
+    keeps("a leaver on no list", |b| {
+        b.leavers = set(&[2]);
+        b.resources[0] = resource(&[0], 3, Some(0));
+    });
+    keeps("all have left", |b| {
+        b.leavers = set(&[0, 1, 2]);
+        b.resources.clear();
+        b.inner_vertices.pop();
+        b.inner_tokens.clear();
+    });
     s1("257 resources", &|b| {
         b.resources = vec![resource(&[0], 0, None); 257];
     });

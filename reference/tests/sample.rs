@@ -55,9 +55,9 @@ fn p1_to_p8_one_delta_run() {
     // P7
     assert_eq!(rows(book.revoke(r(1), u(0), ALL)), [[3, 1, 1]]);
     assert_eq!(rows(book.revoke(r(1), u(1), ALL)), [[1, 5, 0], [3, 1, 5]]);
-    // P8: 17 + 4*8 + 3*5 + 6*8 + 4*4 + 2*12. The kind 1 row is among the
+    // P8: 17 + 8 + 4*8 + 3*5 + 6*8 + 4*4 + 2*12. The kind 1 row is among the
     // three inner tokens, so there are 3 of them: 0 to 3, 1 to 3, 2 to 3.
-    assert_eq!(bytes::write(book.book()).len(), 152);
+    assert_eq!(bytes::write(book.book()).len(), 160);
 }
 
 #[test]
@@ -90,8 +90,8 @@ fn p11_cover_and_chain() {
 
 #[test]
 fn p12_empty_delta_book() {
-    let mut expected = vec![0x54, 0x4B, 0x42, 1, 0, 1];
-    expected.extend([0; 11]);
+    let mut expected = vec![0x54, 0x4B, 0x42, 2, 0, 1];
+    expected.extend([0; 19]);
     assert_eq!(bytes::write(&Book::empty(Mode::Delta)), expected);
     assert_eq!(bytes::read(&expected), Ok(SoundBook::empty(Mode::Delta)));
 }
@@ -99,8 +99,8 @@ fn p12_empty_delta_book() {
 #[test]
 fn largest_book() {
     let rows: usize = (0..5).map(|k| bytes::LIMITS[k] * bytes::WIDTHS[k]).sum();
-    assert_eq!(bytes::HEAD_LENGTH + rows, 46_609);
-    assert_eq!(bytes::LARGEST, 46_609);
+    assert_eq!(bytes::HEAD_LENGTH + 8 + rows, 46_617);
+    assert_eq!(bytes::LARGEST, 46_617);
 }
 
 #[test]

@@ -21,8 +21,8 @@ type Rows = Vec<[u16; 3]>;
 const NOT_OBEYED: &str = "an order that can not be obeyed";
 const OTHER_OPEN: &str = "another folder open to somebody not on its list";
 const OTHER_SHUT: &str = "another folder shut to somebody on its list";
-const NAMED_OPEN: &str = "the folder named open to somebody on neither list";
-const NAMED_SHUT: &str = "the folder named shut to somebody on both lists";
+const CHANGED_OPEN: &str = "a changed folder open to somebody on neither list";
+const CHANGED_SHUT: &str = "a changed folder shut to somebody on both lists";
 const AGAIN: &str = "another host after going on";
 const END: &str = "another host in the end than the book says";
 
@@ -31,8 +31,8 @@ fn kind(breach: &Breach) -> &'static str {
         Breach::NotObeyed(_) => NOT_OBEYED,
         Breach::OtherOpen(..) => OTHER_OPEN,
         Breach::OtherShut(..) => OTHER_SHUT,
-        Breach::NamedOpen(..) => NAMED_OPEN,
-        Breach::NamedShut(..) => NAMED_SHUT,
+        Breach::ChangedOpen(..) => CHANGED_OPEN,
+        Breach::ChangedShut(..) => CHANGED_SHUT,
         Breach::Again(..) => AGAIN,
         Breach::End(_) => END,
     }
@@ -133,6 +133,25 @@ fn cases(
             ("revoke that locks with a new vertex", has(1)),
             ("revoke that empties the list", list(r).size() == 1),
         ],
+        Request::Leave(u) => {
+            let lists = book.resources.iter().map(|row| row.list);
+            let named: Vec<UserSet> = lists.filter(|list| list.names(u)).collect();
+            vec![
+                ("leave that changes no folder", named.is_empty()),
+                ("leave that changes several folders", named.len() > 1),
+                ("leave that makes several vertices", of(1).count() > 1),
+                (
+                    "leave that uses a vertex again",
+                    of(3).count() > of(1).count(),
+                ),
+                (
+                    "leave that empties a list",
+                    named.contains(&UserSet::alone(u)),
+                ),
+                ("leave of the last one", book.staying() == UserSet::alone(u)),
+                ("leave after another", !book.leavers.is_empty()),
+            ]
+        }
         Request::Open(..) => vec![],
     });
     all
@@ -174,6 +193,12 @@ fn run(seed: u64, stops: usize, put: fn(&Request, Rows) -> Rows) -> Tally {
             match request {
                 Request::Grant(r, u) => revoked.remove(&(r, u)),
                 Request::Revoke(r, u) => revoked.insert((r, u)),
+                Request::Leave(u) => {
+                    let lists = before.resources.iter().enumerate();
+                    let named = lists.filter(|(_, row)| row.list.names(u));
+                    revoked.extend(named.map(|(place, _)| (Resource::at(place), u)));
+                    true
+                }
                 _ => false,
             };
             let rows = put(&request, task.rows.clone());
@@ -201,7 +226,7 @@ fn every_stop_is_safe() {
     println!("{tally:#?}");
     assert_eq!(tally.first, None);
     assert!(tally.stops >= 500_000 && tally.again >= tally.stops);
-    assert_eq!(tally.cases.len(), 15);
+    assert_eq!(tally.cases.len(), 22);
     for (case, met) in tally.cases {
         assert!(met >= 100, "{case}: {met}");
     }
@@ -222,6 +247,7 @@ fn every_request(book: &Book, users: u16, folders: usize) -> Vec<Request> {
             all.push(Request::Revoke(Resource::at(place), user));
         }
     }
+    all.extend(book.joined().users().map(Request::Leave));
     all
 }
 
@@ -259,12 +285,12 @@ fn every_run_of_two_users_and_three_folders() {
 }
 
 #[test]
-#[ignore = "some minutes, and a gigabyte or so"]
+#[ignore = "a quarter of an hour, and two gigabytes"]
 fn every_run_of_three_users_and_two_folders() {
     for mode in [Mode::Full, Mode::Delta] {
         let tally = every_run(mode, 3, 2);
         assert_eq!(tally.first, None);
-        assert!(tally.stops > 30_000_000);
+        assert!(tally.stops > 80_000_000);
     }
 }
 
@@ -300,8 +326,50 @@ fn folder_first(request: &Request, mut rows: Rows) -> Rows {
 fn a_folder_that_is_encrypted_first_is_open_too_far() {
     let tally = run(3, 100_000, folder_first);
     println!("{tally:#?}");
-    assert_eq!(tally.kinds(), [NAMED_OPEN]);
-    assert!(tally.breaches[NAMED_OPEN] >= 100);
+    assert_eq!(tally.kinds(), [CHANGED_OPEN]);
+    assert!(tally.breaches[CHANGED_OPEN] >= 100);
+}
+
+/// A leave locks a folder before the tokens to its lock are published.
+fn lock_first(request: &Request, mut rows: Rows) -> Rows {
+    if let Request::Leave(_) = request {
+        while let Some(at) = rows
+            .windows(2)
+            .position(|two| two[0][0] == 2 && two[1][0] == 3)
+        {
+            rows.swap(at, at + 1);
+        }
+    }
+    rows
+}
+
+#[test]
+fn a_lock_before_its_tokens_shuts_out_those_who_stay() {
+    let tally = run(5, 100_000, lock_first);
+    println!("{tally:#?}");
+    assert_eq!(tally.kinds(), [CHANGED_SHUT]);
+    assert!(tally.breaches[CHANGED_SHUT] >= 100);
+}
+
+/// A leave takes the leaver off the first folder alone.
+fn first_folder(request: &Request, mut rows: Rows) -> Rows {
+    if let Request::Leave(_) = request {
+        let first = rows.iter().position(|row| row[0] == 3);
+        rows.truncate(first.map_or(0, |at| at + 1));
+    }
+    rows
+}
+
+#[test]
+fn a_leave_from_the_first_folder_is_not_the_books() {
+    // Each stop is safe: the leaver was on these lists. The end is another.
+    let tally = run(6, 100_000, first_folder);
+    println!("{tally:#?}");
+    assert_eq!(tally.kinds(), [END]);
+    assert_eq!(
+        tally.breaches[END],
+        tally.cases["leave that changes several folders"]
+    );
 }
 
 /// A grant locks its own folder before the neighbours, and the new outer
@@ -441,7 +509,7 @@ fn every_kind_of_breach_is_told() {
     assert_eq!(kinds(with(0, &[[3, 1, 2]])), [OTHER_SHUT, AGAIN]);
     // Folder 0, which 0 and 1 keep, locked for {2} and unlocked again.
     let there_and_back = with(0, &[[3, 0, 2], [3, 0, 65535]]);
-    assert_eq!(kinds(there_and_back), [AGAIN, NAMED_SHUT]);
+    assert_eq!(kinds(there_and_back), [CHANGED_SHUT, AGAIN]);
     // One order less.
     assert_eq!(kinds(given[..4].to_vec()), [END]);
     // A token for 2 to the derivation key opens what the other does.

@@ -12,9 +12,11 @@ use std::time::Duration;
 use std::{env, fs, io};
 
 use fenstubble_reference::book::{Book, Mode, ResourceRow, SoundBook};
+use fenstubble_reference::bytes::{self, Version};
 use fenstubble_reference::generate::{self, Random};
+use fenstubble_reference::numbers::User;
 use fenstubble_reference::requests::Request;
-use fenstubble_reference::{bytes, sets::UserSet};
+use fenstubble_reference::sets::UserSet;
 
 use crate::clock;
 use crate::compare::compare;
@@ -22,9 +24,12 @@ use crate::engine::Engine;
 use crate::memory::{Filler, Lent, Memory};
 use crate::model::Model;
 use crate::process::Process;
-use crate::side::{Call, Side};
+use crate::side::{Call, Side, MOST_ORDERS};
 use crate::stack;
-use crate::worlds::{chained, grown, large, shuffled, typical, LARGEST, NEARLY};
+use crate::worlds::{
+    chained, filled_listed, grown, large, listed, most_listed, shuffled, typical, LARGEST, LEAVER,
+    NEARLY,
+};
 
 /// Rounds of each measurement; in each, both sides once.
 const ROUNDS: usize = 31;
@@ -62,6 +67,7 @@ impl Item {
             Call::Read => lent.book = Memory::of(&self.bytes),
             Call::Write => lent.buffer = Memory::of(&vec![0; self.bytes.len()]),
             Call::Check | Call::View(..) => {}
+            Call::Leave(_) => lent.list = Memory::of(&[0; 3 * MOST_ORDERS]),
             _ => lent.list = Memory::of(&[0; 3 * 400]),
         }
         lent.for_call(self.call)
@@ -89,7 +95,7 @@ fn calls(heading: &str, book: &Book) -> Group {
     let first = |set: UserSet| set.users().next().map_or(0, |user| user.0);
     let (listed, outsider) = (first(list), first(all.minus(list)));
     let new_list: UserSet = all.users().step_by(2).collect();
-    let calls = [
+    let mut calls = vec![
         Call::Check,
         Call::Section(4),
         Call::Read,
@@ -101,13 +107,48 @@ fn calls(heading: &str, book: &Book) -> Group {
         Call::View(listed, r),
         Call::Open(listed, r),
     ];
-    let items = calls.map(|call| Item {
+    calls.extend(longest_leave(book));
+    let items = calls.into_iter().map(|call| Item {
         name: call.name().into(),
         call,
         bytes: bytes::write(book),
     });
     Group {
         heading: format!("{heading}: {}", told(book)),
+        items: items.collect(),
+        doubling: false,
+    }
+}
+
+/// The leave with the most orders on the book, if one is accepted that has any.
+fn longest_leave(book: &Book) -> Option<Call> {
+    let orders = |user: User| {
+        let mut book = SoundBook::new(book.clone()).ok()?;
+        let orders = book.leave(user, usize::MAX).ok()?.len();
+        (orders > 0).then_some((orders, user))
+    };
+    let (_, user) = book.staying().users().filter_map(orders).max()?;
+    Some(Call::Leave(user.0))
+}
+
+/// A leave on several books.
+fn leaves<const N: usize>(books: [(&str, Book); N]) -> Group {
+    let items = books.map(|(name, book)| {
+        let call = Call::Leave(LEAVER.0);
+        let mut after = SoundBook::new(book.clone()).expect("a book to measure");
+        let orders = after
+            .leave(LEAVER, usize::MAX)
+            .map_or(0, |orders| orders.len());
+        Item {
+            name: format!("{name}, {} orders", grouped(orders as u64)),
+            call,
+            bytes: bytes::write(&book),
+        }
+    });
+    Group {
+        heading: "A leave on the largest book: 64 people, 256 folders, the leaver on every list, \
+                  no two lists alike"
+            .into(),
         items: items.into(),
         doubling: false,
     }
@@ -121,7 +162,7 @@ fn told(book: &Book) -> String {
         "{} people, {resources} folders, {inner_vertices} inner and {outer_vertices} outer vertices, \
          {inner_tokens} and {outer_tokens} tokens, {} bytes",
         book.users,
-        bytes::length(&book.head())
+        bytes::length(&book.head(), Version::Two)
     )
 }
 
@@ -147,6 +188,11 @@ pub fn groups() -> Vec<Group> {
     vec![
         calls("Each call on a typical book", &typical),
         calls("Each call on a nearly largest book", &nearly),
+        leaves([
+            ("as requests led to it", listed().book.into_book()),
+            ("that fills the outer vertices", filled_listed()),
+            ("with the most orders there can be", most_listed()),
+        ]),
         checks(
             &format!("The sound check on the largest book: {}", told(&largest)),
             false,
@@ -292,6 +338,7 @@ fn rows_to_serve(group: &Group) -> Vec<u64> {
         Call::Grant(r, u) => Some([2, r.into(), u.into()]),
         Call::Revoke(r, u) => Some([3, r.into(), u.into()]),
         Call::Open(u, r) => Some([4, u.into(), r.into()]),
+        Call::Leave(u) => Some([5, u.into(), 0]),
         _ => None,
     };
     group.items.iter().filter_map(row).flatten().collect()
@@ -305,7 +352,7 @@ fn stacks_of(group: &Group) -> Vec<(&'static str, Option<usize>)> {
     let mut lent = group.items[0].lent();
     let rows = rows_to_serve(group);
     lent.answers = Memory::of(&vec![0; rows.len()]);
-    lent.list = Memory::of(&[0; 5 * 3 * 400]);
+    lent.list = Memory::of(&[0; 3 * (5 * 400 + MOST_ORDERS)]);
     lent.requests = Memory::of(&rows);
     all.push(of(Call::Serve, &lent));
     all
@@ -324,10 +371,13 @@ pub fn stacks() -> String {
         "Stack of a call, bytes, by book:\n\n| | {} |\n|---|--:|--:|--:|\n",
         names.join(" | ")
     );
-    for (at, (name, _)) in columns[0].iter().enumerate() {
-        let taken = columns.each_ref().map(|column| match column[at].1 {
-            Some(bytes) => grouped(bytes as u64),
-            None => "–".into(),
+    for (name, _) in &columns[0] {
+        let taken = columns.each_ref().map(|column| {
+            let of_name = column.iter().find(|(other, _)| other == name);
+            match of_name.and_then(|(_, taken)| *taken) {
+                Some(bytes) => grouped(bytes as u64),
+                None => "–".into(),
+            }
         });
         let _ = writeln!(text, "| {name} | {} |", taken.join(" | "));
     }
@@ -527,6 +577,7 @@ pub fn call_of(words: &str) -> Option<Call> {
         ("insert", &[list]) => Call::insert(list),
         ("grant", &[r, u]) => Call::Grant(small(r)?, small(u)?),
         ("revoke", &[r, u]) => Call::Revoke(small(r)?, small(u)?),
+        ("leave", &[u]) => Call::Leave(small(u)?),
         ("view", &[u, r]) => Call::View(small(u)?, small(r)?),
         ("open", &[u, r]) => Call::Open(small(u)?, small(r)?),
         _ => return None,
@@ -569,7 +620,7 @@ mod tests {
     #[test]
     fn a_stack_for_each_call() {
         let all = stacks_of(&calls("", typical().book.book()));
-        assert_eq!(all.len(), 11);
+        assert_eq!(all.len(), 12);
         assert!(all.iter().all(|(_, taken)| taken.is_some()), "{all:?}");
     }
 

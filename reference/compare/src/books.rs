@@ -2,9 +2,9 @@
 
 use std::fmt;
 
-use fenstubble_reference::book::{Book, Mode, Section, SoundBook};
+use fenstubble_reference::book::{Book, Head, Mode, Section, SoundBook};
 use fenstubble_reference::bytes::{
-    self, COUNT_PLACES, HEAD_LENGTH, LARGEST as LARGEST_BOOK, LIMITS, WIDTHS,
+    self, Version, COUNT_PLACES, HEAD_LENGTH, LARGEST as LARGEST_BOOK, LIMITS, WIDTHS,
 };
 use fenstubble_reference::fault::Fault;
 use fenstubble_reference::generate::{self, Random, Shape};
@@ -12,11 +12,11 @@ use fenstubble_reference::sets::UserSet;
 use fenstubble_reference::sound::{broken_rules, At, Broken, Rule};
 
 use crate::compare::Tally;
-use crate::damage::{damaged, damaged_rows, rich, some_kind, Which, KINDS};
+use crate::damage::{damaged, damaged_rows, rich, some_kind, some_version, Which, KINDS};
 use crate::limits;
 use crate::memory::{Filler, Lent, Memory, TABLES};
 use crate::report::{random_of, Bounds, Report, Session};
-use crate::shrink::head_in;
+use crate::shrink::{head_in, version_in};
 use crate::side::Call;
 use crate::worlds::{large, LARGEST, NEARLY};
 
@@ -28,14 +28,16 @@ pub const NUMBERS: [u8; 13] = [20, 21, 22, 23, 24, 31, 32, 33, 34, 35, 36, 37, 3
 pub struct Summary {
     /// Byte strings.
     pub strings: usize,
-    /// Byte strings that are a sound book.
-    pub sound: usize,
+    /// Byte strings that are a sound book, by version.
+    pub sound: [usize; 2],
+    /// Sound books in which somebody has left.
+    pub left: usize,
     /// Damaged books that break one rule alone, by the rule.
     pub alone: [usize; 8],
     /// Where the counts were that were the first over their limit.
     pub counts: [usize; 6],
-    /// Where the first rows were that break the first rule.
-    pub rows: Rows,
+    /// Where the first rows were that break the first rule, by version.
+    pub rows: [Rows; 2],
     /// The calls and their answers.
     pub tally: Tally,
 }
@@ -57,18 +59,27 @@ impl Summary {
                 never.push(format!("23 at {at}"));
             }
         }
-        never.extend(self.rows.never_met());
+        for (rows, version) in self.rows.iter().zip(Version::ALL) {
+            let number = version.number();
+            let of = |what: String| format!("version {number}, {what}");
+            never.extend(rows.never_met().into_iter().map(of));
+            // Version 1 has no leavers.
+            if version == Version::Two && rows.leavers == 0 {
+                never.push(of("S1, the leavers".into()));
+            }
+        }
         never
     }
 }
 
 /// How often each rule was the first one broken, by where: each section, its
-/// first row, its last row, and those between; and how often a vertex was
-/// missing.
+/// first row, its last row, and those between; how often a vertex was missing;
+/// and how often the set of leavers broke it.
 #[derive(Clone, Debug, Default)]
 pub struct Rows {
     by_row: [[[usize; 3]; 5]; 8],
     missing: usize,
+    leavers: usize,
 }
 
 /// The rows of a section, as they are counted.
@@ -77,9 +88,16 @@ const ENDS: [&str; 3] = ["first row", "between", "last row"];
 impl Rows {
     /// Counts one, in a book with that head.
     fn count(&mut self, broken: Broken, rows: [usize; 5]) {
-        let At::Row(section, row) = broken.at else {
-            self.missing += 1;
-            return;
+        let (section, row) = match broken.at {
+            At::Row(section, row) => (section, row),
+            At::Missing => {
+                self.missing += 1;
+                return;
+            }
+            At::Leavers => {
+                self.leavers += 1;
+                return;
+            }
         };
         let counts = &mut self.by_row[broken.rule as usize][section.number()];
         let last = row + 1 == rows[section.number()];
@@ -138,6 +156,9 @@ impl fmt::Display for Rows {
                 let table = TABLES[section.number()];
                 write!(f, " {table} {first}/{between}/{last};")?;
             }
+            if rule == Rule::S1 {
+                write!(f, " leavers {};", self.leavers)?;
+            }
             if rule == Rule::S2 {
                 write!(f, " a vertex missing {};", self.missing)?;
             }
@@ -149,11 +170,13 @@ impl fmt::Display for Rows {
 
 impl fmt::Display for Summary {
     fn fmt(&self, f: &mut fmt::Formatter<'_>) -> fmt::Result {
+        let [old, new] = self.sound;
         writeln!(
             f,
-            "{} byte strings, {} of them sound books; {} calls: no difference",
+            "{} byte strings, {old} of them sound books of version 1, {new} of version 2 ({} with \
+             leavers); {} calls: no difference",
             self.strings,
-            self.sound,
+            self.left,
             self.tally.calls()
         )?;
         write!(f, "{}", self.tally)?;
@@ -165,7 +188,11 @@ impl fmt::Display for Summary {
         for (at, count) in COUNT_PLACES.iter().zip(self.counts) {
             write!(f, " at {at} {count}")?;
         }
-        write!(f, "\n{}", self.rows)
+        writeln!(f)?;
+        for (rows, version) in self.rows.iter().zip(Version::ALL) {
+            write!(f, "version {}, {rows}", version.number())?;
+        }
+        Ok(())
     }
 }
 
@@ -199,7 +226,7 @@ pub const LENGTHS: [usize; 10] = [
     65_535,
     65_536,
     65_537,
-    65_536 + 79,
+    65_536 + 152,
     70_000,
     200_000,
 ];
@@ -261,10 +288,13 @@ impl Books {
             self.session.compare(Call::Read, &lent)?;
         }
         if read.answer.is_ok() {
-            self.summary.sound += 1;
+            let version = version_in(bytes);
+            self.summary.sound[usize::from(version == Version::Two)] += 1;
+            let head = head_in(bytes);
+            self.summary.left += usize::from(!head.leavers.is_empty());
             let mut lent = read.lent;
             lent.book = Memory::default();
-            self.tables(random, &lent, bytes.len())?;
+            self.tables(random, &lent, bytes::length(&head, Version::Two))?;
         }
         Ok(())
     }
@@ -279,7 +309,8 @@ impl Books {
             }
             Err(Fault::Broken { broken, .. }) => {
                 let rows = head_in(given).counts();
-                self.summary.rows.count(broken, rows);
+                let version = usize::from(version_in(given) == Version::Two);
+                self.summary.rows[version].count(broken, rows);
             }
             _ => {}
         }
@@ -307,7 +338,7 @@ impl Books {
     /// Check and write on the tables of a book, sound or not.
     fn tables_of(&mut self, random: &mut Random, book: &Book) -> Outcome {
         let lent = Lent::of(book, Filler::any(random));
-        self.tables(random, &lent, bytes::length(&book.head()))
+        self.tables(random, &lent, bytes::length(&book.head(), Version::Two))
     }
 
     /// A book as bytes and as tables.
@@ -316,38 +347,68 @@ impl Books {
         self.tables_of(random, book)
     }
 
-    /// Strings of 0 to 18 bytes.
+    /// Strings of 0 to 26 bytes, a byte more than the empty book has; and those
+    /// of a book, one byte after the other.
     fn short_strings(&mut self, random: &mut Random) -> Outcome {
-        let whole = bytes::write(&sample(Mode::Delta));
-        for mode in [Mode::Delta, Mode::Full] {
-            let mut empty = bytes::write(&Book::empty(mode));
-            empty.push(0);
-            for length in 0..=HEAD_LENGTH + 1 {
-                self.string(random, &empty[..length])?;
-                self.string(random, &whole[..length])?;
-                self.string(random, &vec![0; length])?;
-                self.string(random, &vec![0xFF; length])?;
+        let most = Version::Two.leavers().end + 1;
+        for version in Version::ALL {
+            let whole = bytes::write_as(&sample(Mode::Delta), version);
+            for mode in [Mode::Delta, Mode::Full] {
+                let mut empty = bytes::write_as(&Book::empty(mode), version);
+                empty.resize(most, 0);
+                for length in 0..=most {
+                    self.string(random, &empty[..length])?;
+                    self.string(random, &whole[..length])?;
+                    self.string(random, &vec![0; length])?;
+                    self.string(random, &vec![0xFF; length])?;
+                }
             }
-        }
-        for length in HEAD_LENGTH..=whole.len() {
-            self.string(random, &whole[..length])?;
+            for length in HEAD_LENGTH..=whole.len() {
+                self.string(random, &whole[..length])?;
+            }
         }
         Ok(())
     }
 
-    /// Every value of every byte of the head, and pairs of values of the
-    /// version.
+    /// Every value of every byte of header and leavers, of version 1 some; and
+    /// pairs of values of the version.
     fn every_head_byte(&mut self, random: &mut Random) -> Outcome {
-        for mode in [Mode::Delta, Mode::Full] {
-            let whole = bytes::write(&sample(mode));
-            for at in 0..HEAD_LENGTH {
+        for (mode, version) in [
+            (Mode::Delta, Version::Two),
+            (Mode::Full, Version::Two),
+            (Mode::Delta, Version::One),
+        ] {
+            let mut book = sample(mode);
+            if version == Version::Two && mode == Mode::Delta {
+                // Somebody who is on no list has left.
+                book = left(book);
+            }
+            let whole = bytes::write_as(&book, version);
+            for at in 0..version.leavers().end {
                 for value in 0..=255 {
+                    // Of the leavers of mode full, and of version 1, a few.
+                    let few = version == Version::One || mode == Mode::Full && at >= HEAD_LENGTH;
+                    if few && ![0, 1, 2, 3, 4, 7, 8, 64, 65, 128, 255].contains(&value) {
+                        continue;
+                    }
                     let mut bytes = whole.clone();
                     bytes[at] = value;
                     self.string(random, &bytes)?;
                 }
             }
-            for version in [[0, 0], [2, 0], [1, 1], [0, 1], [255, 255], [1, 255]] {
+            for version in [
+                [0, 0],
+                [1, 0],
+                [2, 0],
+                [3, 0],
+                [1, 1],
+                [2, 1],
+                [0, 1],
+                [0, 2],
+                [255, 255],
+                [1, 255],
+                [2, 255],
+            ] {
                 let mut bytes = whole.clone();
                 bytes[3..5].copy_from_slice(&version);
                 self.string(random, &bytes)?;
@@ -361,16 +422,25 @@ impl Books {
     fn around_the_limits(&mut self, random: &mut Random) -> Outcome {
         for mode in [Mode::Full, Mode::Delta] {
             for (counts, _) in limits::around() {
-                self.book(random, &limits::book(mode, &counts))?;
+                let book = limits::book(mode, &counts);
+                self.book(random, &book)?;
+                if mode == Mode::Delta {
+                    self.string(random, &bytes::write_as(&book, Version::One))?;
+                }
             }
         }
-        self.book(random, large(&LARGEST).book.book())?;
+        let largest = large(&LARGEST).book.into_book();
+        self.book(random, &largest)?;
+        self.string(random, &bytes::write_as(&largest, Version::One))?;
         for base in [sample(Mode::Delta), sample(Mode::Full)] {
-            for field in 0..6 {
-                for value in head_values(&base, field) {
-                    let (alone, longer) = with_count(&bytes::write(&base), field, value);
-                    self.string(random, &alone)?;
-                    self.string(random, &longer)?;
+            for version in Version::ALL {
+                let whole = bytes::write_as(&base, version);
+                for field in 0..6 {
+                    for value in head_values(&base, field) {
+                        let (alone, longer) = with_count(&whole, field, value);
+                        self.string(random, &alone)?;
+                        self.string(random, &longer)?;
+                    }
                 }
             }
         }
@@ -381,9 +451,9 @@ impl Books {
     /// of other lengths.
     fn every_head_number(&mut self, random: &mut Random) -> Outcome {
         for mode in [Mode::Delta, Mode::Full] {
-            let book = sample(mode);
-            let length = bytes::length(&book.head());
-            for at in 0..7 {
+            let book = left(sample(mode));
+            let length = bytes::length(&book.head(), Version::Two);
+            for at in 0..Head::NUMBERS {
                 for value in (0..=70).chain([
                     255, 256, 257, 319, 320, 321, 447, 448, 449, 450, 451, 452, 511, 512, 513,
                     4095, 4096, 4097, 32767, 32768, 65280, 65534, 65535,
@@ -393,7 +463,7 @@ impl Books {
                     self.tables(random, &lent, length)?;
                 }
             }
-            for numbers in 0..10 {
+            for numbers in 0..Head::NUMBERS + 3 {
                 let mut lent = Lent::of(&book, Filler::Same(0xA1));
                 let mut head = lent.head.content().to_vec();
                 head.resize(numbers, 0x0101);
@@ -419,7 +489,7 @@ impl Books {
     fn long_strings(&mut self, random: &mut Random) -> Outcome {
         for length in LENGTHS {
             for mode in [Mode::Delta, Mode::Full] {
-                let mut bytes = bytes::write(&sample(mode));
+                let mut bytes = bytes::write_as(&sample(mode), some_version(random));
                 bytes.extend(Filler::any(random).bytes(length - bytes.len()));
                 self.string(random, &bytes)?;
                 for at in [0, 4, 5, 6, 16] {
@@ -436,9 +506,9 @@ impl Books {
     fn each_kind_of_damage(&mut self, random: &mut Random) -> Outcome {
         for kind in KINDS {
             for which in Which::ENDS {
-                for _ in 0..12 {
+                for version in [Version::ALL; 6].concat() {
                     let book = rich(random);
-                    if let Some(bytes) = damaged(random, &book, &[(kind, which)]) {
+                    if let Some(bytes) = damaged(random, &book, &[(kind, which)], version) {
                         self.string(random, &bytes)?;
                     }
                 }
@@ -456,7 +526,8 @@ impl Books {
                 for _ in 0..times {
                     let book = rich(random);
                     let kinds = [(one, Which::some(random)), (other, Which::some(random))];
-                    if let Some(bytes) = damaged(random, &book, &kinds) {
+                    let version = some_version(random);
+                    if let Some(bytes) = damaged(random, &book, &kinds, version) {
                         self.string(random, &bytes)?;
                     }
                 }
@@ -472,7 +543,8 @@ impl Books {
             let book = large(&size).book.into_book();
             for kind in KINDS {
                 for which in Which::ENDS {
-                    if let Some(bytes) = damaged(random, &book, &[(kind, which)]) {
+                    let version = some_version(random);
+                    if let Some(bytes) = damaged(random, &book, &[(kind, which)], version) {
                         self.string(random, &bytes)?;
                     }
                 }
@@ -494,8 +566,12 @@ impl Books {
     /// A random sound book and much that is wrong with it.
     fn around_a_book(&mut self, random: &mut Random) -> Outcome {
         let book = some_book(random);
-        let whole = bytes::write(&book);
         self.book(random, &book)?;
+        let version = some_version(random);
+        let whole = bytes::write_as(&book, version);
+        if version == Version::One {
+            self.string(random, &whole)?;
+        }
 
         // One byte less, one more.
         self.string(random, &whole[..whole.len() - 1])?;
@@ -518,7 +594,7 @@ impl Books {
             while kinds.len() < 3 && random.chance(1, 3) {
                 kinds.push(some_kind(random));
             }
-            if let Some(bytes) = damaged(random, &book, &kinds) {
+            if let Some(bytes) = damaged(random, &book, &kinds, version) {
                 self.string(random, &bytes)?;
             }
         }
@@ -532,7 +608,7 @@ impl Books {
             self.string(random, &damaged)?;
         }
         let twice = generate::damage(random, &book);
-        let twice = generate::damage_bytes(random, &bytes::write(&twice));
+        let twice = generate::damage_bytes(random, &bytes::write_as(&twice, version));
         self.string(random, &twice)?;
 
         // A count at some edge.
@@ -549,7 +625,7 @@ impl Books {
     /// The book's tables with bytes changed before and past the counts, and
     /// tables and heads of other lengths.
     fn around_tables(&mut self, random: &mut Random, book: &Book) -> Outcome {
-        let length = bytes::length(&book.head());
+        let length = bytes::length(&book.head(), Version::Two);
         let counts = book.head().counts();
         let clean = Lent::of(book, Filler::any(random));
 
@@ -579,14 +655,19 @@ impl Books {
             self.tables(random, &lent, length)?;
         }
 
-        // A number of the head: one more or less, or any.
+        // A number of the head: one more or less, or any; and one leaver more or
+        // less.
         let mut lent = clean.clone();
-        let number = &mut lent.head.lend()[random.below(7)];
+        let number = &mut lent.head.lend()[random.below(Head::NUMBERS)];
         *number = match random.below(3) {
             0 => number.wrapping_add(1),
             1 => number.wrapping_sub(1),
             _ => random.next() as u16,
         };
+        self.tables(random, &lent, length)?;
+        let mut lent = clean.clone();
+        let user = random.below(usize::from(book.users) + 1).min(63);
+        lent.head.lend()[7 + user / 16] ^= 1 << (user % 16);
         self.tables(random, &lent, length)?;
 
         // Something too short, for a sound book and for none.
@@ -610,6 +691,19 @@ pub fn sample(mode: Mode) -> Book {
         .and_then(|_| book.insert(UserSet(3), all))
         .and_then(|_| book.grant(Resource(0), User(2), all))
         .and_then(|_| book.revoke(Resource(0), User(1), all));
+    debug_assert!(done.is_ok());
+    book.into_book()
+}
+
+/// The sample after two more people came, of whom one left, and user 2 too.
+pub fn left(book: Book) -> Book {
+    use fenstubble_reference::numbers::User;
+    let mut book = SoundBook::new(book).expect("a sample");
+    let all = usize::MAX;
+    let done = (0..2)
+        .try_for_each(|_| book.join(all).map(drop))
+        .and_then(|()| book.leave(User(3), all))
+        .and_then(|_| book.leave(User(2), all));
     debug_assert!(done.is_ok());
     book.into_book()
 }
@@ -688,7 +782,7 @@ fn with_count(whole: &[u8], field: usize, value: u16) -> (Vec<u8>, Vec<u8>) {
     // Resources stand first in the head and last among the sections.
     let section = (field + 3) % 5;
     let width = WIDTHS[section];
-    let mut end = HEAD_LENGTH;
+    let mut end = version_in(whole).leavers().end;
     for (k, width) in WIDTHS.iter().enumerate().take(section + 1) {
         let field = (k + 1) % 5 + 1;
         let at = 5 + 2 * field;
@@ -710,9 +804,9 @@ pub fn shorter(random: &mut Random, lent: &mut Lent) {
     let k = random.below(6);
     if k == 5 {
         let numbers = if random.chance(2, 3) {
-            6
+            Head::NUMBERS - 1
         } else {
-            random.below(7)
+            random.below(Head::NUMBERS)
         };
         lent.head = Memory::of(&lent.head.content()[..numbers]);
         return;
@@ -734,7 +828,7 @@ pub fn longer(random: &mut Random, lent: &mut Lent) {
         resize(&mut lent.tables[k], length);
     }
     let mut head = lent.head.content().to_vec();
-    head.resize(7 + random.below(4), 0xB2B2);
+    head.resize(Head::NUMBERS + random.below(4), 0xB2B2);
     lent.head = Memory::of(&head);
 }
 
@@ -751,46 +845,64 @@ mod tests {
 
     #[test]
     fn what_was_never_met() {
-        // Of nothing: 13 numbers of two calls, 6 counts, a missing vertex, and
-        // the rows: S1 in 5 sections, S2 in 3, S3 to S6 in 2 each, S7 and S8 in
-        // one, each at three rows, but for the 3 where the first can not be.
+        // Of nothing: 13 numbers of two calls and 6 counts; in each version a
+        // missing vertex, and the rows: S1 in 5 sections, S2 in 3, S3 to S6 in 2
+        // each, S7 and S8 in one, each at three rows, but for the 3 where the
+        // first can not be; in version 2 the leavers.
         let mut summary = Summary::default();
-        assert_eq!(summary.never_met().len(), 26 + 6 + 1 + 3 * 18 - 3);
+        let all = 26 + 6 + 2 * (1 + 3 * 18 - 3) + 1;
+        assert_eq!(summary.never_met().len(), all);
         // One that is met is gone; a single row is the first and the last.
         let rule = Rule::S4;
         let at = At::Row(Section::InnerTokens, 0);
-        summary.rows.count(Broken { rule, at }, [3, 1, 3, 0, 0]);
+        summary.rows[1].count(Broken { rule, at }, [3, 1, 3, 0, 0]);
         let never = summary.never_met();
-        assert_eq!(never.len(), 26 + 6 + 1 + 3 * 18 - 5);
-        assert!(never.contains(&"S4, inner tokens, between".into()));
-        let at = At::Missing;
-        summary.rows.count(Broken { rule, at }, [0; 5]);
+        assert_eq!(never.len(), all - 2);
+        assert!(never.contains(&"version 2, S4, inner tokens, between".into()));
+        assert!(never.contains(&"version 1, S4, inner tokens, first row".into()));
+        for (at, left) in [(At::Missing, 1), (At::Leavers, 2)] {
+            summary.rows[1].count(Broken { rule, at }, [0; 5]);
+            assert_eq!(summary.never_met().len(), never.len() - left);
+        }
         summary.tally.count(Call::Read, 33);
         summary.counts[2] += 1;
-        assert_eq!(summary.never_met().len(), never.len() - 3);
+        assert_eq!(summary.never_met().len(), never.len() - 4);
     }
 
     #[test]
     fn counts_in_place() {
         let base = sample(Mode::Delta);
-        let whole = bytes::write(&base);
         assert_eq!(base.head().counts(), [4, 3, 5, 4, 2]);
-        // A count more or less, with its length: only the count's own
-        // section grows or shrinks, by zeros or from its end.
-        for field in 1..6 {
-            let section = (field + 3) % 5;
-            for value in 0..9 {
-                let (alone, longer) = with_count(&whole, field, value);
-                assert_eq!(alone.len(), whole.len());
-                let mut counts = base.head().counts();
-                counts[section] = usize::from(value);
-                let length: usize = (0..5).map(|k| counts[k] * WIDTHS[k]).sum();
-                assert_eq!(longer.len(), HEAD_LENGTH + length, "{field} {value}");
-                let same = base.head().counts()[section] == usize::from(value);
-                assert_eq!(longer == whole, same);
+        for (version, start) in Version::ALL.into_iter().zip([17, 25]) {
+            let whole = bytes::write_as(&base, version);
+            // A count more or less, with its length: only the count's own
+            // section grows or shrinks, by zeros or from its end.
+            for field in 1..6 {
+                let section = (field + 3) % 5;
+                for value in 0..9 {
+                    let (alone, longer) = with_count(&whole, field, value);
+                    assert_eq!(alone.len(), whole.len());
+                    let mut counts = base.head().counts();
+                    counts[section] = usize::from(value);
+                    let length: usize = (0..5).map(|k| counts[k] * WIDTHS[k]).sum();
+                    assert_eq!(longer.len(), start + length, "{field} {value}");
+                    let same = base.head().counts()[section] == usize::from(value);
+                    assert_eq!(longer == whole, same);
+                }
             }
+            // One resource less is still a book.
+            assert!(bytes::read(&with_count(&whole, 1, 1).1).is_ok());
         }
-        // One resource less is still a book.
-        assert!(bytes::read(&with_count(&whole, 1, 1).1).is_ok());
+        // A length of which 16 bits say that it is the sample's.
+        assert!(LENGTHS.contains(&(65_536 + bytes::write(&base).len())));
+    }
+
+    #[test]
+    fn the_sample_with_leavers() {
+        for mode in [Mode::Delta, Mode::Full] {
+            let book = left(sample(mode));
+            assert_eq!((book.users, book.leavers), (5, UserSet(12)));
+            assert!(SoundBook::new(book).is_ok());
+        }
     }
 }

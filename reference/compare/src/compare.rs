@@ -9,7 +9,7 @@ use fenstubble_reference::refusal::Refusal;
 use crate::engine::Engine;
 use crate::memory::{Cell, Lent, Memory, Place, TABLES};
 use crate::model::Model;
-use crate::side::{Answer, Call, Given, Side, SET};
+use crate::side::{Answer, Call, Given, Side, MOST_ORDERS, SET};
 
 /// A call that both sides answered alike.
 #[derive(Clone, Debug)]
@@ -172,6 +172,12 @@ impl Tally {
             .map_or(0, |answers| answers.iter().sum())
     }
 
+    /// How many calls of that name were accepted, and how many refused.
+    pub fn accepted_of(&self, name: &str) -> [usize; 2] {
+        let accepted = self.of(name, 0);
+        [accepted, self.calls_of(name) - accepted]
+    }
+
     /// How many calls there were.
     pub fn calls(&self) -> usize {
         self.answers.values().flatten().sum()
@@ -203,9 +209,8 @@ impl fmt::Display for Tally {
 /// How many numbers of a list the answer takes, as the model has it; 0 for a
 /// call that is refused or takes none.
 pub fn numbers_needed(call: Call, lent: &Lent) -> usize {
-    // More than the orders of any request.
     let mut ample = lent.for_call(call);
-    ample.list = Memory::of(&[0; 3 * 400]);
+    ample.list = Memory::of(&[0; 3 * MOST_ORDERS]);
     match Model::make(call, &mut ample.lend()) {
         Ok(Ok(Given::Orders(rows))) => usize::from(rows) * 3,
         Ok(Ok(Given::Chains(inner, outer))) => usize::from(inner) + usize::from(outer),

@@ -5,7 +5,7 @@ use fenstubble_reference::book::{
     Book, InnerToken, Mode, OuterToken, MAX_INNER_TOKENS, MAX_OUTER_GROUPS, MAX_OUTER_TOKENS,
     MAX_USERS,
 };
-use fenstubble_reference::bytes::{self, COUNT_PLACES, HEAD_LENGTH};
+use fenstubble_reference::bytes::{self, Version, COUNT_PLACES, HEAD_LENGTH, VERSION_PLACE};
 use fenstubble_reference::derive::InnerKnowers;
 use fenstubble_reference::generate::{self, member, subset, Random, Shape};
 use fenstubble_reference::numbers::{InnerVertex, OuterVertex, User};
@@ -95,15 +95,18 @@ const fn head(number: u8, name: &'static str, does: Head) -> Kind {
 }
 
 /// All kinds, by number.
-pub const KINDS: [Kind; 50] = [
+pub const KINDS: [Kind; 53] = [
     head(20, "the mark", |random, bytes| {
         if let Some(byte) = bytes.get_mut(random.below(3)) {
             *byte ^= random.between(1, 255) as u8;
         }
     }),
     head(21, "the version", |random, bytes| {
-        if let Some(byte) = bytes.get_mut(random.between(3, 4)) {
-            *byte ^= random.between(1, 255) as u8;
+        let more = random.between(3, 255) as u8;
+        match bytes.get_mut(VERSION_PLACE..VERSION_PLACE + 2) {
+            Some([low, _]) if random.chance(1, 2) => *low = more * u8::from(more < 254),
+            Some([_, high]) => *high = more,
+            _ => {}
         }
     }),
     head(22, "the mode", |random, bytes| {
@@ -125,6 +128,11 @@ pub const KINDS: [Kind; 50] = [
     head(24, "less than a header", |random, bytes| {
         bytes.truncate(random.below(HEAD_LENGTH));
     }),
+    head(24, "the other version", |_, bytes| {
+        if let Some(low) = bytes.get_mut(VERSION_PLACE) {
+            *low = 3 - (*low).clamp(1, 2);
+        }
+    }),
     head(24, "bytes missing", |random, bytes| {
         let gone = random.between(1, bytes.len().saturating_sub(HEAD_LENGTH).clamp(1, 20));
         bytes.truncate(bytes.len().saturating_sub(gone));
@@ -132,6 +140,23 @@ pub const KINDS: [Kind; 50] = [
     head(24, "bytes too many", |random, bytes| {
         let more = random.between(1, 20);
         bytes.extend((0..more).map(|_| random.next() as u8));
+    }),
+    rows(31, "the leavers", |random, book, _| {
+        book.leavers = with_stranger(random, book, book.leavers)?;
+        Some(())
+    }),
+    rows(31, "a leaver on a list", |random, book, which| {
+        let listed = |row: &usize| !book.resources[*row].list.is_empty();
+        let row = which.of(random, (0..book.resources.len()).filter(listed))?;
+        if random.chance(1, 2) {
+            // All lists that name the same one break the rule.
+            let user = member(random, book.resources[row].list)?;
+            book.leavers = book.leavers.with(user);
+        } else {
+            let user = member(random, book.leavers)?;
+            book.resources[row].list = book.resources[row].list.with(user);
+        }
+        Some(())
     }),
     rows(31, "inner set", |random, book, which| {
         let row = which.of(random, 0..book.inner_vertices.len())?;
@@ -561,22 +586,39 @@ fn insert_inner_token(
     room.then(|| book.inner_tokens.insert(at, token))
 }
 
-/// The bytes of the book with these kinds of damage, each at that row: those to
-/// rows first. None where one of them can not be done.
-pub fn damaged(random: &mut Random, book: &Book, kinds: &[(Kind, Which)]) -> Option<Vec<u8>> {
-    let mut book = book.clone();
+/// The bytes of the book, of that version, with these kinds of damage, each at
+/// that row: those to rows first. None where one of them can not be done, also
+/// because the version has no leavers.
+pub fn damaged(
+    random: &mut Random,
+    book: &Book,
+    kinds: &[(Kind, Which)],
+    version: Version,
+) -> Option<Vec<u8>> {
+    let mut damaged = book.clone();
+    if version == Version::One {
+        damaged.leavers = UserSet::EMPTY;
+    }
     for (kind, which) in kinds {
         if let Does::Rows(does) = kind.does {
-            does(random, &mut book, *which)?;
+            does(random, &mut damaged, *which)?;
         }
     }
-    let mut bytes = bytes::write(&book);
+    if version == Version::One && !damaged.leavers.is_empty() {
+        return None;
+    }
+    let mut bytes = bytes::write_as(&damaged, version);
     for (kind, _) in kinds {
         if let Does::Head(does) = kind.does {
             does(random, &mut bytes);
         }
     }
     Some(bytes)
+}
+
+/// One of both versions.
+pub fn some_version(random: &mut Random) -> Version {
+    Version::ALL[random.below(2)]
 }
 
 /// Any kind at any row.
@@ -607,6 +649,7 @@ pub fn rich(random: &mut Random) -> Book {
     let shape = Shape {
         mode,
         users: random.between(3, 8),
+        leavers: random.below(3),
         resources: random.between(5, 12),
         inner_groups: random.between(2, 4),
         access_tokens: random.between(3, 9),
@@ -626,10 +669,16 @@ mod tests {
     fn each_kind_meets_its_number() {
         let random = &mut Random::new(6);
         for kind in KINDS {
-            for which in Which::ENDS {
+            for (version, which) in Version::ALL
+                .map(|one| Which::ENDS.map(|which| (one, which)))
+                .concat()
+            {
+                if version == Version::One && kind.name.contains("leaver") {
+                    continue;
+                }
                 let tries = (0..60).filter_map(|_| {
                     let book = rich(random);
-                    let bytes = damaged(random, &book, &[(kind, which)])?;
+                    let bytes = damaged(random, &book, &[(kind, which)], version)?;
                     Some(bytes::read(&bytes).map_err(|fault| fault.number()).err())
                 });
                 let numbers: Vec<Option<u8>> = tries.collect();

@@ -41,6 +41,7 @@ pub(crate) mod c {
         fn fenstubble_insert(head: *mut u16, head_len: usize; mut tables; orders: *mut u16, orders_len: usize, count: *mut u16, list: *const u8, list_len: usize);
         fn fenstubble_grant(head: *mut u16, head_len: usize; mut tables; orders: *mut u16, orders_len: usize, count: *mut u16, resource: u16, user: u16);
         fn fenstubble_revoke(head: *mut u16, head_len: usize; mut tables; orders: *mut u16, orders_len: usize, count: *mut u16, resource: u16, user: u16);
+        fn fenstubble_leave(head: *mut u16, head_len: usize; mut tables; orders: *mut u16, orders_len: usize, count: *mut u16, user: u16);
         fn fenstubble_view(head: *const u16, head_len: usize; const tables; user: u16, resource: u16, view: *mut u16);
         fn fenstubble_open(head: *const u16, head_len: usize; const tables; user: u16, resource: u16, list: *mut u16, list_len: usize, inner: *mut u16, outer: *mut u16);
         fn fenstubble_serve(head: *mut u16, head_len: usize; mut tables; requests: *const u64, requests_len: usize, answers: *mut u16, answers_len: usize, orders: *mut u16, orders_len: usize, used: *mut usize);
@@ -128,6 +129,7 @@ impl Side for Engine {
             }
             Call::Grant(r, u) => c!(fenstubble_grant(; lent; list, list_len, cell, r, u)),
             Call::Revoke(r, u) => c!(fenstubble_revoke(; lent; list, list_len, cell, r, u)),
+            Call::Leave(u) => c!(fenstubble_leave(; lent; list, list_len, cell, u)),
             Call::View(u, r) => c!(fenstubble_view(; lent; u, r, cell)),
             Call::Open(u, r) => c!(fenstubble_open(; lent; u, r, list, list_len, cell, second)),
             Call::Serve => {
@@ -182,7 +184,7 @@ impl Told {
         };
         let number = (self.code % 256) as u8;
         match (number, self.place) {
-            (1..=13, None | Some(0)) => Some(Refusal {
+            (1..=13 | 15, None | Some(0)) => Some(Refusal {
                 number,
                 view,
                 place: None,
@@ -228,6 +230,7 @@ mod tests {
         };
         assert_eq!(answer(0, 7), Ok(Ok(Given::Orders(7))));
         assert_eq!(answer(12, LEFT), Ok(Err(Refusal::UNSOUND)));
+        assert_eq!(answer(15, LEFT), Ok(Err(Refusal::HAS_LEFT)));
         for (view, number) in [
             (View::SelLocked, 1),
             (View::BelLocked, 2),
@@ -241,7 +244,7 @@ mod tests {
         for code in [
             11,
             14,
-            15,
+            16,
             20,
             24,
             31,
@@ -280,7 +283,7 @@ mod tests {
                 assert_eq!(answer(code, place), Ok(Err(no)));
             }
         }
-        for code in [14, 19, 25, 30, 39, 255, 20 + 256, 31 + 256] {
+        for code in [14, 16, 19, 25, 30, 39, 255, 20 + 256, 31 + 256] {
             assert!(answer(code, 0).is_err(), "{code}");
         }
     }

@@ -8,17 +8,17 @@ use std::fmt;
 use std::time::Instant;
 
 use fenstubble_reference::book::{Book, Mode};
-use fenstubble_reference::bytes::{self, HEAD_LENGTH};
+use fenstubble_reference::bytes::{self, Version, LARGEST as LARGEST_BOOK};
 use fenstubble_reference::generate::{self, Random};
 use fenstubble_reference::inspect;
 
-use crate::books::{sample, some_book, LENGTHS, NUMBERS};
-use crate::damage::{damaged, rich, some_kind, Which, KINDS};
+use crate::books::{left, sample, some_book, LENGTHS, NUMBERS};
+use crate::damage::{damaged, rich, some_kind, some_version, Which, KINDS};
 use crate::memory::Filler;
 use crate::process::{Process, Reply};
 use crate::report::{random_of, Bounds, Report};
 use crate::script::shown;
-use crate::shrink::{smallest_bytes, Shown};
+use crate::shrink::{smallest_bytes, version_in, Shown};
 use crate::worlds::{large, LARGEST, NEARLY};
 
 /// How many smaller inputs are tried at most.
@@ -34,8 +34,12 @@ pub struct Summary {
     pub inputs: usize,
     /// Their bytes.
     pub bytes: usize,
-    /// Those that are a sound book.
-    pub sound: usize,
+    /// Those that are a sound book, by version.
+    pub sound: [usize; 2],
+    /// Sound books in which somebody has left.
+    pub left: usize,
+    /// Those in which the set of leavers is wrong.
+    pub leavers: usize,
     /// Others, by what is wrong with them.
     pub numbers: BTreeMap<u8, usize>,
 }
@@ -53,8 +57,9 @@ impl fmt::Display for Summary {
     fn fmt(&self, f: &mut fmt::Formatter<'_>) -> fmt::Result {
         write!(
             f,
-            "{} inputs with {} bytes: no difference\nsound {}",
-            self.inputs, self.bytes, self.sound
+            "{} inputs with {} bytes: no difference\nsound of version 1 {}, of version 2 {} ({} with \
+             leavers), wrong leavers {}",
+            self.inputs, self.bytes, self.sound[0], self.sound[1], self.left, self.leavers
         )?;
         for (number, count) in &self.numbers {
             write!(f, ", no {number} {count}")?;
@@ -171,8 +176,17 @@ impl Inspections {
         self.summary.inputs += 1;
         self.summary.bytes += given.len();
         match bytes::read(given) {
-            Ok(_) => self.summary.sound += 1,
-            Err(fault) => *self.summary.numbers.entry(fault.number()).or_default() += 1,
+            Ok(book) => {
+                let version = version_in(given);
+                self.summary.sound[usize::from(version == Version::Two)] += 1;
+                self.summary.left += usize::from(!book.book().leavers.is_empty());
+            }
+            Err(fault) => {
+                *self.summary.numbers.entry(fault.number()).or_default() += 1;
+                let new = given.len() > 16 && version_in(given) == Version::Two;
+                let leavers = (fault.number(), fault.place()) == (31, 17);
+                self.summary.leavers += usize::from(new && leavers);
+            }
         }
         match self.differ(given, piece) {
             Some(found) => Err(self.report(given, piece, found)),
@@ -208,18 +222,22 @@ impl Inspections {
         })
     }
 
-    /// No bytes at all, fewer than a header, a header, and a byte more.
+    /// No bytes at all, fewer than a header, a header, and up to a byte more
+    /// than the empty book has, of both versions; and header and leavers with a
+    /// byte changed.
     fn short_inputs(&mut self, random: &mut Random) -> Outcome {
-        let whole = bytes::write(&sample(Mode::Delta));
-        for mode in [Mode::Delta, Mode::Full] {
-            let mut empty = bytes::write(&Book::empty(mode));
-            empty.push(0);
-            for length in 0..=HEAD_LENGTH + 1 {
+        let most = Version::Two.leavers().end + 1;
+        for (mode, version) in [(Mode::Delta, Version::One), (Mode::Full, Version::Two)] {
+            let mut empty = bytes::write_as(&Book::empty(mode), version);
+            empty.resize(most, 0);
+            let whole = bytes::write_as(&left(sample(mode)), version);
+            for length in 0..=most {
                 self.input(&empty[..length], some_piece(random))?;
                 self.input(&whole[..length], some_piece(random))?;
                 self.input(&vec![b'\n'; length], some_piece(random))?;
             }
-            for at in 0..HEAD_LENGTH {
+            self.input(&whole, some_piece(random))?;
+            for at in 0..version.leavers().end {
                 for value in [0, 1, 2, 65, 255] {
                     let mut bytes = whole.clone();
                     bytes[at] = value;
@@ -234,9 +252,9 @@ impl Inspections {
     /// hold, and longer, in pieces of several sizes.
     fn long_inputs(&mut self, random: &mut Random) -> Outcome {
         for length in LENGTHS {
-            let mut bytes = bytes::write(&sample(Mode::Delta));
+            let mut bytes = bytes::write_as(&sample(Mode::Delta), some_version(random));
             bytes.extend(Filler::any(random).bytes(length - bytes.len()));
-            for piece in [512, 4095, 4096, 4097, 46_609, 65_536, length] {
+            for piece in [512, 4095, 4096, 4097, LARGEST_BOOK, 65_536, length] {
                 self.input(&bytes, piece)?;
             }
             for (at, value) in [(0, 0), (4, 9), (5, 9), (6, 99), (16, 0xEE)] {
@@ -259,9 +277,11 @@ impl Inspections {
             }
             self.input(&whole[..whole.len() - 1], 4096)?;
             self.input(&[&whole[..], b"\n"].concat(), 4096)?;
+            self.input(&bytes::write_as(&book, Version::One), 4096)?;
             for kind in KINDS {
                 let which = Which::some(random);
-                if let Some(bytes) = damaged(random, &book, &[(kind, which)]) {
+                let version = some_version(random);
+                if let Some(bytes) = damaged(random, &book, &[(kind, which)], version) {
                     self.input(&bytes, some_piece(random).max(64))?;
                 }
             }
@@ -273,9 +293,9 @@ impl Inspections {
     fn each_kind_of_damage(&mut self, random: &mut Random) -> Outcome {
         for kind in KINDS {
             for which in Which::ENDS {
-                for _ in 0..3 {
+                for version in [Version::One, Version::Two, Version::Two] {
                     let book = rich(random);
-                    if let Some(bytes) = damaged(random, &book, &[(kind, which)]) {
+                    if let Some(bytes) = damaged(random, &book, &[(kind, which)], version) {
                         self.input(&bytes, some_piece(random))?;
                     }
                 }
@@ -287,12 +307,13 @@ impl Inspections {
     /// A random sound book and some that is wrong with it.
     fn around_a_book(&mut self, random: &mut Random) -> Outcome {
         let book = some_book(random);
-        let whole = bytes::write(&book);
+        let version = some_version(random);
+        let whole = bytes::write_as(&book, version);
         self.input(&whole, some_piece(random))?;
         for _ in 0..3 {
             let kinds = [some_kind(random), some_kind(random)];
             let some = random.between(1, 2);
-            if let Some(bytes) = damaged(random, &book, &kinds[..some]) {
+            if let Some(bytes) = damaged(random, &book, &kinds[..some], version) {
                 self.input(&bytes, some_piece(random))?;
             }
         }

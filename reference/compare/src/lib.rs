@@ -15,7 +15,7 @@
 //! | [`report`] | a difference with its seed and smallest case; bounded runs |
 //! | [`books`] | check, section, read and write |
 //! | [`locks`] | answers that show in which order the orders stand |
-//! | [`requests`] | join, insert, grant, revoke, view and open; serve |
+//! | [`requests`] | join, insert, grant, revoke, leave, view and open; serve |
 //! | [`process`] | a program of the engine as a process |
 //! | [`lines`] | lines of scripts, fine and malformed |
 //! | [`script`] | one script on both programs; smaller scripts that still differ |

@@ -80,6 +80,7 @@ pub fn book(mode: Mode, counts: &Counts) -> Book {
     Book {
         mode: mode.number(),
         users,
+        leavers: UserSet::EMPTY,
         inner_tokens: inner_tokens(&inner),
         outer_tokens: outer_tokens(&outer),
         inner_vertices,

@@ -12,13 +12,14 @@ pub const NUMBERS: [&[u8]; 50] = [
     b"\t1", b"1\0", b"\0", b"\xFF", b"\xC2\xB9",
 ];
 
-/// The words that requests begin with.
-pub const REQUESTS: [&[u8]; 5] = [b"join", b"insert", b"grant", b"revoke", b"open"];
+/// The words that requests begin with. The leaves come last: after them the
+/// others get other answers.
+pub const REQUESTS: [&[u8]; 6] = [b"join", b"insert", b"grant", b"revoke", b"open", b"leave"];
 
 /// Other words.
 #[rustfmt::skip]
-pub const WORDS: [&[u8]; 28] = [
-    b"view", b"section", b"delta", b"full", b"leave", b"Join", b"JOIN", b"INSERT", b"joi",
+pub const WORDS: [&[u8]; 31] = [
+    b"view", b"section", b"delta", b"full", b"leav", b"leaves", b"Leave", b"left", b"Join", b"JOIN", b"INSERT", b"joi",
     b"joinn", b"inser", b"inserts", b"gran", b"grants", b"revok", b"revokes", b"ope", b"opens",
     b"", b"0", b"ok", b"no", b"join\0", b"join\r", b"\0", b"\xFF", b"\xEF\xBB\xBFjoin",
     b"insert\xA0",
@@ -57,10 +58,10 @@ pub const FIRSTS: [&[u8]; 38] = [
 
 /// Last lines, for scripts that may end without a newline.
 #[rustfmt::skip]
-pub const LASTS: [&[u8]; 19] = [
+pub const LASTS: [&[u8]; 23] = [
     b"join", b"insert", b"insert 0", b"insert 2 0", b"grant 0 2", b"revoke 0 1", b"open 1 0",
     b"open 2 0", b"join ", b"join\r", b" ", b"x", b"", b"\0", b"insert ", b"grant 0", b"grant 0 ",
-    b"open 100000 0", b"open 65536 0",
+    b"open 100000 0", b"open 65536 0", b"leave 1", b"leave", b"leave 2 ", b"leave 65537",
 ];
 
 /// Lengths of lines: around the longest one, and around the sizes of

@@ -1,11 +1,11 @@
 //! Memory to lend: a stretch of a larger one, with canaries on both sides.
 
-use fenstubble_reference::book::Book;
+use fenstubble_reference::book::{Book, Head};
 use fenstubble_reference::bytes::{read_rows, write_rows, LIMITS, WIDTHS};
 use fenstubble_reference::generate::Random;
 use fenstubble_reference::lent::Tables;
 
-use crate::model::{head_of, numbers_of};
+use crate::model::head_of;
 use crate::side::{Call, Lending, SET};
 
 /// Canaries before a lent stretch. An odd number, so that bytes are lent at
@@ -166,7 +166,7 @@ impl Filler {
 /// Everything that a call can be lent; what it does not take stays empty.
 #[derive(Clone, Debug, Default, PartialEq, Eq)]
 pub struct Lent {
-    /// The head: seven numbers or more.
+    /// The head: as many numbers as it has, or more.
     pub head: Memory<u16>,
     /// The tables, in the order of the book's sections.
     pub tables: [Memory<u8>; 5],
@@ -196,7 +196,7 @@ impl Lent {
     /// A head and tables full of nothing, as long as the limits ask for.
     pub fn blank(filler: Filler) -> Lent {
         Lent {
-            head: Memory::of(&filler.numbers(7)),
+            head: Memory::of(&filler.numbers(Head::NUMBERS)),
             tables: std::array::from_fn(|k| Memory::of(&filler.bytes(LIMITS[k] * WIDTHS[k]))),
             ..Lent::default()
         }
@@ -212,7 +212,7 @@ impl Lent {
     /// Puts the book's head and rows in the place of those that are there,
     /// as far as the tables go; all else stays.
     pub fn put(&mut self, book: &Book) {
-        for (cell, number) in self.head.lend().iter_mut().zip(numbers_of(&book.head())) {
+        for (cell, number) in self.head.lend().iter_mut().zip(book.head().numbers()) {
             *cell = number;
         }
         let tables = self.lend().tables;
@@ -234,6 +234,7 @@ impl Lent {
         Some(Book {
             mode: head.mode,
             users: head.users,
+            leavers: head.leavers,
             inner_vertices: read_rows(used[0]),
             inner_tokens: read_rows(used[1]),
             outer_vertices: read_rows(used[2]),

@@ -8,21 +8,11 @@ use fenstubble_reference::refusal::Refusal;
 
 use crate::side::{Answer, Call, Given, Lending, Side};
 
-/// The head from its numbers. Refusal 13 if there are fewer than 7.
+/// The head from its numbers. Refusal 13 if there are fewer than it has.
 pub fn head_of(numbers: &[u16]) -> Result<Head, Refusal> {
-    match *numbers {
-        [mode, users, resources, inner_vertices, inner_tokens, outer_vertices, outer_tokens, ..] => {
-            Ok(Head {
-                mode,
-                users,
-                resources,
-                inner_vertices,
-                inner_tokens,
-                outer_vertices,
-                outer_tokens,
-            })
-        }
-        _ => Err(Refusal::TABLE_SHORT),
+    match numbers.first_chunk() {
+        Some(numbers) => Ok(Head::from_numbers(numbers)),
+        None => Err(Refusal::TABLE_SHORT),
     }
 }
 
@@ -33,19 +23,6 @@ pub fn list_of(bytes: &[u8]) -> Result<u64, Refusal> {
         Some(set) => Ok(u64::from_le_bytes(*set)),
         None => Err(Refusal::TABLE_SHORT),
     }
-}
-
-/// The seven numbers of a head.
-pub fn numbers_of(head: &Head) -> [u16; 7] {
-    [
-        head.mode,
-        head.users,
-        head.resources,
-        head.inner_vertices,
-        head.inner_tokens,
-        head.outer_vertices,
-        head.outer_tokens,
-    ]
 }
 
 /// The model's side.
@@ -87,16 +64,17 @@ fn make(call: Call, lent: &mut Lending) -> Result<Given, Refusal> {
         Call::Insert(..) => ordered(lent::insert(&before?, tables, list_of(lent.set)?, list)?),
         Call::Grant(r, u) => ordered(lent::grant(&before?, tables, r, u, list)?),
         Call::Revoke(r, u) => ordered(lent::revoke(&before?, tables, r, u, list)?),
+        Call::Leave(u) => ordered(lent::leave(&before?, tables, u, list)?),
         Call::Serve => {
             let (after, used) = lent::serve(&before?, tables, lent.requests, lent.answers, list)?;
             (after, Given::Used(used))
         }
     };
-    lent.head[..7].copy_from_slice(&numbers_of(&after));
+    lent.head[..Head::NUMBERS].copy_from_slice(&after.numbers());
     Ok(given)
 }
 
-/// The count fits: no request gives more than some hundred orders.
+/// The count fits: no request gives more than some thousand orders.
 fn ordered((after, count): (Head, usize)) -> (Head, Given) {
     (after, Given::Orders(count as u16))
 }

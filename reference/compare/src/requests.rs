@@ -1,10 +1,10 @@
-//! Join, insert, grant, revoke, view and open: runs of requests in which both
-//! sides go on from the same state, and single ones on tables that are no
+//! Join, insert, grant, revoke, leave, view and open: runs of requests in which
+//! both sides go on from the same state, and single ones on tables that are no
 //! sound book; and several requests in one call.
 
 use std::fmt;
 
-use fenstubble_reference::book::{Book, Mode, SoundBook, MAX_OUTER_GROUPS};
+use fenstubble_reference::book::{Book, Head, Mode, SoundBook, MAX_OUTER_GROUPS, MAX_OUTER_TOKENS};
 use fenstubble_reference::bytes::{LIMITS, WIDTHS};
 use fenstubble_reference::check::smallest;
 use fenstubble_reference::generate::{self, Random, Shape};
@@ -12,15 +12,15 @@ use fenstubble_reference::numbers::{Resource, User};
 use fenstubble_reference::requests::{List, Request};
 use fenstubble_reference::sets::UserSet;
 
-use crate::books::{longer, resize, sample, shorter, some_book};
+use crate::books::{left, longer, resize, sample, shorter, some_book};
 use crate::compare::{Difference, Done, Tally};
 use crate::limits::{self, of_size, Counts};
 use crate::locks::Locks;
 use crate::memory::{Filler, Lent, Memory};
 use crate::report::{random_of, Bounds, Report, Session};
 use crate::shrink::Case;
-use crate::side::{Call, Given, SET};
-use crate::worlds::{large, LARGEST, NEARLY};
+use crate::side::{Call, Given, MOST_ORDERS, SET};
+use crate::worlds::{filled_listed, large, listed, most_listed, LARGEST, LEAVER, NEARLY};
 
 /// What was compared.
 #[derive(Clone, Debug, Default)]
@@ -37,7 +37,21 @@ pub struct Summary {
     pub longest: [u16; 2],
     /// Requests that were served several in one call, by the number of the
     /// refusal, 0 if there was none.
-    pub served: [usize; 14],
+    pub served: [usize; 16],
+    /// Leaves among them that were accepted, and that were refused.
+    pub served_leaves: [usize; 2],
+}
+
+impl Summary {
+    /// Leaves that were accepted, and that were refused, by themselves and
+    /// among several requests.
+    pub fn leaves(&self) -> [usize; 2] {
+        let [accepted, refused] = self.tally.accepted_of("leave");
+        [
+            accepted + self.served_leaves[0],
+            refused + self.served_leaves[1],
+        ]
+    }
 }
 
 impl fmt::Display for Summary {
@@ -55,6 +69,13 @@ impl fmt::Display for Summary {
             self.most_orders, self.longest[0], self.longest[1]
         )?;
         writeln!(f, "{}", self.locks)?;
+        let [accepted, refused] = self.leaves();
+        let several = self.served_leaves;
+        writeln!(
+            f,
+            "leaves accepted {accepted}, refused {refused} ({} and {} of them among several requests)",
+            several[0], several[1]
+        )?;
         if self.tally.calls_of("serve") > 0 {
             writeln!(f, "served in one call, by answer: {:?}", self.served)?;
         }
@@ -66,7 +87,7 @@ type Outcome = Result<(), Box<Report>>;
 
 /// The cases that are the same for every seed, but for the lists lent and
 /// the random requests at their ends.
-const FIXED: [fn(&mut Requests, &mut Random) -> Outcome; 10] = [
+const FIXED: [fn(&mut Requests, &mut Random) -> Outcome; 13] = [
     Requests::edges,
     Requests::other_lengths,
     Requests::users_full,
@@ -77,6 +98,9 @@ const FIXED: [fn(&mut Requests, &mut Random) -> Outcome; 10] = [
     Requests::around_the_limits,
     Requests::long_chains,
     Requests::many_neighbours,
+    Requests::who_has_left,
+    Requests::leaves_at_their_limits,
+    Requests::long_leaves,
 ];
 
 /// Compares about so many requests.
@@ -286,6 +310,15 @@ impl Requests {
                     self.step(&mut world, random, Call::insert(u64::MAX >> bit))?;
                 }
                 self.step(&mut world, random, Call::insert(0))?;
+                for u in NUMBERS.into_iter().chain([users - 1, users]) {
+                    self.step(&mut world, random, Call::Leave(u))?;
+                    self.step(&mut world, random, Call::Leave(u))?;
+                    for r in [0, resources - 1, resources] {
+                        self.about(&mut world, random, r, u)?;
+                    }
+                    let bit = 1u64.checked_shl(u.into()).unwrap_or(0);
+                    self.step(&mut world, random, Call::insert(bit | 4))?;
+                }
             }
         }
         Ok(())
@@ -294,9 +327,9 @@ impl Requests {
     /// Heads, tables and sets that are too short, just long enough, and longer.
     fn other_lengths(&mut self, random: &mut Random) -> Outcome {
         for mode in [Mode::Delta, Mode::Full] {
-            let clean = Lent::of(&sample(mode), Filler::any(random));
+            let clean = Lent::of(&left(sample(mode)), Filler::any(random));
             let mut all = Vec::new();
-            for numbers in 0..10 {
+            for numbers in 0..Head::NUMBERS + 3 {
                 let mut lent = clean.clone();
                 let mut head = clean.head.content().to_vec();
                 head.resize(numbers, 0x0101);
@@ -321,11 +354,14 @@ impl Requests {
                     Call::Join,
                     Call::Grant(0, 1),
                     Call::Revoke(0, 0),
+                    Call::Leave(0),
                     Call::View(2, 1),
                     Call::Open(0, 0),
                     Call::insert(0),
                     Call::Grant(99, 99),
                     Call::Revoke(99, 99),
+                    Call::Leave(2),
+                    Call::Leave(99),
                     Call::View(99, 99),
                     Call::Open(99, 99),
                 ] {
@@ -545,6 +581,216 @@ impl Requests {
         Ok(())
     }
 
+    /// What can be asked about a folder and a user.
+    fn about(&mut self, world: &mut World, random: &mut Random, r: u16, u: u16) -> Outcome {
+        for call in [
+            Call::View(u, r),
+            Call::Open(u, r),
+            Call::Revoke(r, u),
+            Call::Grant(r, u),
+        ] {
+            self.step(world, random, call)?;
+        }
+        Ok(())
+    }
+
+    /// 15 and the numbers around it: 1 comes before, all others behind. Where
+    /// there are 256 folders, where there are fewer, and where all is full.
+    fn who_has_left(&mut self, random: &mut Random) -> Outcome {
+        for mode in [Mode::Delta, Mode::Full] {
+            for resources in [250, 256] {
+                let counts = Counts {
+                    users: 6,
+                    resources,
+                    ..limits::SMALL
+                };
+                let mut world = self.world(random, sound(limits::book(mode, &counts)));
+                for user in [0, 5, 5, 6, 64, 65535] {
+                    self.leave(&mut world, random, user)?;
+                }
+                for u in [0, 1, 5, 6, 63, 64, 65535] {
+                    for r in [0, 1, 5, 249, 250, 255, 256, 65535] {
+                        self.about(&mut world, random, r, u)?;
+                        // Without room, and without a list.
+                        self.ask(&mut world, Call::Grant(r, u), 0)?;
+                    }
+                }
+                for list in 0..128 {
+                    // Every set of those there, and of one who is not.
+                    self.ask(&mut world, Call::insert(list), 0)?;
+                    self.ask(&mut world, Call::insert(list | 1 << 63), 0)?;
+                    self.step(&mut world, random, Call::insert(list))?;
+                }
+                // A leaver's number is not used again.
+                self.step(&mut world, random, Call::Join)?;
+                self.step(&mut world, random, Call::insert(1 << 6))?;
+                self.steps(&mut world, random, 40, 8)?;
+            }
+            // Every table is full; the last user has left.
+            let mut book = limits::book(mode, &limits::LARGEST);
+            let own = book.resources[0];
+            for row in &mut book.resources {
+                if row.list.names(User(63)) {
+                    *row = own;
+                }
+            }
+            book.leavers = UserSet::alone(User(63));
+            let mut world = self.world(random, sound(book));
+            for list in [1 << 63, 1 << 63 | 1, u64::MAX, 1] {
+                self.refused(&mut world, Call::insert(list))?;
+            }
+            for r in [0, 1, 255, 256] {
+                self.refused(&mut world, Call::Grant(r, 63))?;
+                self.refused(&mut world, Call::Grant(r, 62))?;
+                self.about(&mut world, random, r, 63)?;
+            }
+            self.leave(&mut world, random, 63)?;
+            // Emptied lists need one vertex more than there may be.
+            self.leave(&mut world, random, 62)?;
+            self.refused(&mut world, Call::Join)?;
+        }
+        // 64 users, of whom half leave: nobody joins in their place.
+        let mut world = self.world(random, joined(Mode::Delta, 64));
+        for user in 0..32 {
+            self.leave(&mut world, random, user * 2)?;
+        }
+        self.refused(&mut world, Call::Join)?;
+        self.steps(&mut world, random, 60, 64)
+    }
+
+    /// The leave with no order rows, with one too few, with one number too few,
+    /// and with enough; then once more.
+    fn leave(&mut self, world: &mut World, random: &mut Random, user: u16) -> Outcome {
+        let call = Call::Leave(user);
+        let answer = world.book.clone().answer(&carried(call), usize::MAX);
+        match answer {
+            Ok(answer) if answer.count() > 0 => {
+                let needed = 3 * answer.count();
+                for numbers in [0, needed - 3, needed - 1] {
+                    self.ask(world, call, numbers)?;
+                }
+            }
+            Ok(_) => {}
+            Err(_) => self.refused(world, call)?,
+        }
+        self.step(world, random, call)?;
+        self.step(world, random, call)
+    }
+
+    /// 7, 9 and 10 of a leave: it needs exactly as many outer vertices and
+    /// tokens as there may be, or more; so it shows that they are judged on all
+    /// of its folders together. The last time an earlier folder meets 9 than 7.
+    fn leaves_at_their_limits(&mut self, random: &mut Random) -> Outcome {
+        for mode in [Mode::Delta, Mode::Full] {
+            for (users, folders) in [(12, 40), (64, 30), (10, 1), (9, 256)] {
+                let all = UserSet::first(users);
+                let leaver = User::at(random.below(usize::from(users)));
+                let mut book = joined(mode, usize::from(users));
+                for _ in 0..folders {
+                    let other = generate::member(random, all.without(leaver));
+                    let list = generate::subset(random, all).with(leaver);
+                    let list = list.with(other.unwrap_or(leaver));
+                    grow(&mut book, &Request::Insert(list.into()));
+                }
+                let mut after = book.clone();
+                grow(&mut after, &Request::Leave(leaver));
+                let (book, after) = (book.book(), after.book());
+                let groups = MAX_OUTER_GROUPS + book.outer_groups() - after.outer_groups();
+                let tokens = MAX_OUTER_TOKENS + book.outer_tokens.len() - after.outer_tokens.len();
+                for (more_groups, more_tokens) in [(0, 0), (1, 0), (0, 1), (1, 1), (1, 30)] {
+                    let groups = (groups + more_groups).min(MAX_OUTER_GROUPS);
+                    let tokens = (tokens + more_tokens).min(MAX_OUTER_TOKENS);
+                    let padded = generate::padded(random, book, leaver, groups, tokens);
+                    let mut world = self.world(random, sound(padded));
+                    let row = [5, leaver.0.into(), random.next()];
+                    self.serve(&mut world.lent.clone(), &row, MOST_ORDERS)?;
+                    self.leave(&mut world, random, leaver.0)?;
+                    self.steps(&mut world, random, 8, 64)?;
+                }
+            }
+        }
+        Ok(())
+    }
+
+    /// A leave in a random book that no requests lead to, which needs about as
+    /// many outer vertices or tokens as there may be.
+    fn leave_near_a_limit(&mut self, random: &mut Random) -> Outcome {
+        let shape = Shape {
+            users: random.between(10, 64),
+            resources: random.between(1, 60),
+            ..Shape::wide(random)
+        };
+        let book = generate::book(random, &shape);
+        let mut after = sound(book.clone());
+        let Some(user) = generate::member(random, book.staying()) else {
+            return Ok(());
+        };
+        if after.leave(user, usize::MAX).is_err() {
+            return Ok(());
+        }
+        let after = after.book();
+        let near = |random: &mut Random, left: usize, most: usize| match random.below(3) {
+            0 => 0,
+            _ => (left + random.between(0, 2)).saturating_sub(1).min(most),
+        };
+        let left = MAX_OUTER_GROUPS + book.outer_groups() - after.outer_groups();
+        let groups = near(random, left, MAX_OUTER_GROUPS);
+        let left = MAX_OUTER_TOKENS + book.outer_tokens.len() - after.outer_tokens.len();
+        let tokens = near(random, left, MAX_OUTER_TOKENS);
+        let padded = generate::padded(random, &book, user, groups, tokens);
+        if padded.outer_tokens.len() > MAX_OUTER_TOKENS {
+            return Ok(());
+        }
+        let mut world = self.world(random, sound(padded));
+        self.leave(&mut world, random, user.0)?;
+        self.steps(&mut world, random, 8, 64)
+    }
+
+    /// Leaves with as many orders as requests lead to, one that fills the outer
+    /// vertices, and the longest of any book: 4,608 orders.
+    fn long_leaves(&mut self, random: &mut Random) -> Outcome {
+        for book in [listed().book, sound(filled_listed()), sound(most_listed())] {
+            let mut world = self.world(random, book);
+            self.leave(&mut world, random, LEAVER.0)?;
+            self.steps(&mut world, random, 12, 64)?;
+        }
+        // By one call with a leave of everybody.
+        for mode in [Mode::Delta, Mode::Full] {
+            let book = limits::book(mode, &limits::SMALL);
+            let mut lent = Lent::of(&book, Filler::any(random));
+            let rows = (0..65).map(|user| [5, user, random.next()]);
+            let rows: Vec<u64> = rows.collect::<Vec<_>>().concat();
+            self.serve(&mut lent, &rows, MOST_ORDERS)?;
+            self.serve(&mut lent, &rows, 1)?;
+        }
+        Ok(())
+    }
+
+    /// These request rows in one call, with an answer row for each and so many
+    /// order rows.
+    fn serve(&mut self, lent: &mut Lent, rows: &[u64], orders: usize) -> Outcome {
+        lent.requests = Memory::of(rows);
+        lent.answers = Memory::of(&vec![0xB2B2; rows.len()]);
+        lent.list = Memory::of(&vec![0xB2B2; 3 * orders]);
+        let done = self.session.compare(Call::Serve, lent)?;
+        self.count_served(&done);
+        Ok(())
+    }
+
+    /// Counts the answers of a serve.
+    fn count_served(&mut self, done: &Done) {
+        if done.answer.is_err() {
+            return;
+        }
+        let rows = done.lent.requests.content().chunks_exact(3);
+        for (row, answer) in rows.zip(done.lent.answers.content().chunks_exact(3)) {
+            self.summary.served[usize::from(answer[0]).min(15)] += 1;
+            if row[0] == 5 {
+                self.summary.served_leaves[usize::from(answer[0] != 0)] += 1;
+            }
+        }
+    }
+
     /// A call that mostly is refused, also with no list at all.
     fn refused(&mut self, world: &mut World, call: Call) -> Outcome {
         self.ask(world, call, 0).map(drop)?;
@@ -556,7 +802,7 @@ impl Requests {
             lent: world.lent.clone(),
             filler: world.filler,
         };
-        self.ask(&mut world, call, 3 * 400).map(drop)
+        self.ask(&mut world, call, 3 * MOST_ORDERS).map(drop)
     }
 
     /// A run in a random world, or single requests on bad tables.
@@ -566,6 +812,9 @@ impl Requests {
         } else {
             Mode::Full
         };
+        if random.chance(1, 60) {
+            return self.leave_near_a_limit(random);
+        }
         match random.below(40) {
             0..=17 => {
                 let mut world = self.world(random, SoundBook::empty(mode));
@@ -648,10 +897,8 @@ impl Requests {
         world.lent.answers = Memory::of(&world.filler.numbers(answers));
         world.lent.list = Memory::of(&world.filler.numbers(list));
         let done = self.session.compare(Call::Serve, &world.lent)?;
+        self.count_served(&done);
         if done.answer.is_ok() {
-            for row in done.lent.answers.content().chunks_exact(3).take(count) {
-                self.summary.served[usize::from(row[0]).min(13)] += 1;
-            }
             world.lent.clone_from(&done.lent);
             world.book = sound(world.lent.book_in_tables().expect("rows for every count"));
         }
@@ -686,7 +933,7 @@ impl Requests {
             }
             3 => {
                 let mut lent = Lent::of(&book, filler);
-                let number = &mut lent.head.lend()[random.below(7)];
+                let number = &mut lent.head.lend()[random.below(Head::NUMBERS)];
                 *number = match random.below(4) {
                     0 => number.wrapping_add(1),
                     1 => number.wrapping_sub(1),
@@ -750,15 +997,20 @@ fn row_of(random: &mut Random, request: &Request) -> [u64; 3] {
         Request::Grant(r, u) => [2, r.0.into(), u.0.into()],
         Request::Revoke(r, u) => [3, r.0.into(), u.0.into()],
         Request::Open(u, r) => [4, u.0.into(), r.0.into()],
+        Request::Leave(u) => [5, u.0.into(), random.next()],
     }
 }
 
 /// The row with a number that does not exist: past the kinds, or one that
 /// would wrap round to what was there.
 fn odd_row(random: &mut Random, mut row: [u64; 3]) -> [u64; 3] {
-    let more = [1 << 16, 1 << 32, 1 << 63, 5, u64::MAX][random.below(5)];
-    // A join and an insert have no other number that can be wrong.
-    let place = if row[0] < 2 { 0 } else { random.below(3) };
+    let more = [1 << 16, 1 << 32, 1 << 63, 6, u64::MAX][random.below(5)];
+    // A join and an insert have no other number that can be wrong, a leave one.
+    let place = match row[0] {
+        0 | 1 => 0,
+        5 => random.below(2),
+        _ => random.below(3),
+    };
     row[place] = row[place].saturating_add(more);
     row
 }
@@ -782,6 +1034,7 @@ fn carried(call: Call) -> Request {
         Call::Insert(list, _) => Request::Insert(List::from(UserSet(list))),
         Call::Grant(r, u) => Request::Grant(Resource(r), User(u)),
         Call::Revoke(r, u) => Request::Revoke(Resource(r), User(u)),
+        Call::Leave(u) => Request::Leave(User(u)),
         Call::Open(u, r) | Call::View(u, r) => Request::Open(User(u), Resource(r)),
         _ => Request::Join,
     }
@@ -795,6 +1048,7 @@ fn call_of(request: &Request) -> Call {
         Request::Insert(list) => Call::insert(list.set.0),
         Request::Grant(r, u) => Call::Grant(r.0, u.0),
         Request::Revoke(r, u) => Call::Revoke(r.0, u.0),
+        Request::Leave(u) => Call::Leave(u.0),
         Request::Open(u, r) => Call::Open(u.0, r.0),
     }
 }
@@ -847,11 +1101,12 @@ fn odd_call(random: &mut Random, book: &Book) -> Call {
     };
     let u = number(random, users);
     let r = number(random, book.resources.len());
-    match random.below(5) {
+    match random.below(6) {
         0 => Call::Grant(r, u),
         1 => Call::Revoke(r, u),
         2 => Call::View(u, r),
         3 => Call::Open(u, r),
+        4 => Call::Leave(u),
         _ => {
             let all = book.joined().0;
             let some = random.next() & all;

@@ -20,7 +20,7 @@ use crate::locks::Locks;
 use crate::process::Process;
 use crate::report::{random_of, Bounds, Report};
 use crate::script::{difference, kind, shown, smallest, Difference, Script};
-use crate::worlds::{large, LARGEST};
+use crate::worlds::{large, listed, LARGEST, LEAVER};
 
 /// What was compared.
 #[derive(Clone, Debug, Default)]
@@ -37,14 +37,16 @@ pub struct Summary {
     pub most_rows: usize,
     /// Answers that lock something first.
     pub locks: Locks,
+    /// Leaves that were accepted, and that were refused.
+    pub leaves: [usize; 2],
 }
 
 impl Summary {
     /// Answers that the program can give and that were not among these.
     pub fn missing(&self) -> Vec<&'static str> {
-        const ALL: [&str; 14] = [
+        const ALL: [&str; 15] = [
             "ok", "no 1", "no 2", "no 3", "no 4", "no 5", "no 6", "no 7", "no 8", "no 9",
-            "no 11 1", "no 11 2", "no 11 3", "no 14",
+            "no 11 1", "no 11 2", "no 11 3", "no 14", "no 15",
         ];
         let mut missing = ALL.to_vec();
         missing.retain(|&answer| !self.answers.contains_key(answer));
@@ -65,6 +67,8 @@ impl fmt::Display for Summary {
             .map(|(answer, count)| format!("{answer}: {count}"))
             .collect();
         writeln!(f, "{}; most rows {}", answers.join(", "), self.most_rows)?;
+        let [accepted, refused] = self.leaves;
+        writeln!(f, "leaves accepted {accepted}, refused {refused}")?;
         writeln!(f, "{}", self.locks)
     }
 }
@@ -73,7 +77,7 @@ type Outcome = Result<(), Box<Report>>;
 
 /// The cases that are the same for every seed, but for random lists and
 /// requests.
-const FIXED: [fn(&mut Scripts, &mut Random) -> Outcome; 11] = [
+const FIXED: [fn(&mut Scripts, &mut Random) -> Outcome; 12] = [
     Scripts::first_lines,
     Scripts::numbers,
     Scripts::spaces_and_words,
@@ -85,6 +89,7 @@ const FIXED: [fn(&mut Scripts, &mut Random) -> Outcome; 11] = [
     Scripts::nine,
     Scripts::many_rows,
     Scripts::largest,
+    Scripts::leaves,
 ];
 
 /// Compares about so many lines.
@@ -249,8 +254,14 @@ impl Scripts {
         let delta = script.lines.first().is_some_and(|line| line == b"delta");
         let expected = String::from_utf8_lossy(&expected);
         let mut lines = expected.lines();
+        // The first line has no answer, if it is fine.
+        let mut asked = script.lines.iter().skip(1);
         while let Some(line) = lines.next() {
             let answer = kind(Some(line.as_bytes()));
+            let asked = asked.next().and_then(|line| program::request(line));
+            if let Some(Request::Leave(_)) = asked {
+                self.summary.leaves[usize::from(answer != "ok")] += 1;
+            }
             if let Some(rows) = line.strip_prefix("ok ") {
                 let rows = rows.parse().unwrap_or(0);
                 self.summary.most_rows = self.summary.most_rows.max(rows);
@@ -549,6 +560,48 @@ impl Scripts {
         }
         writer.any(random, 200, 64, 8);
         self.compare(random, &writer.script())
+    }
+
+    /// Leaves: the longest one, some into the limits, one after the other, and
+    /// requests about leavers.
+    fn leaves(&mut self, random: &mut Random) -> Outcome {
+        let mut writer = Writer::new(Mode::Delta, 0);
+        for request in listed().script {
+            writer.ask(request);
+        }
+        writer.ask(Request::Leave(LEAVER));
+        writer.ask(Request::Leave(LEAVER));
+        writer.any(random, 60, 64, 8);
+        self.compare(random, &writer.script())?;
+        for mode in MODES {
+            // Most of these leaves meet 7 or 9.
+            for (users, folders) in [(10, 256), (64, 60)] {
+                let mut writer = Writer::new(mode, users);
+                let all = writer.book.book().joined();
+                for _ in 0..folders {
+                    let list = generate::subset(random, all);
+                    writer.insert(list.with(User(random.below(users) as u16)));
+                }
+                for user in all.users() {
+                    writer.ask(Request::Leave(user));
+                    writer.ask(Request::Leave(user));
+                    for r in [0, 1, folders - 1, folders] {
+                        writer.ask(Request::Open(user, Resource::at(r)));
+                        writer.ask(Request::Grant(Resource::at(r), user));
+                        writer.ask(Request::Revoke(Resource::at(r), user));
+                    }
+                    writer.insert(UserSet::alone(user));
+                    writer.insert(UserSet::alone(user).with(User(users as u16)));
+                    writer.insert(all);
+                }
+                for line in ["leave 65536", "leave 64", "join", "leave 0 0", "leave 00"] {
+                    writer.line(line);
+                }
+                writer.any(random, 60, 64, 8);
+                self.compare(random, &writer.script())?;
+            }
+        }
+        Ok(())
     }
 
     /// A script in a random world: mostly long and in a small one.

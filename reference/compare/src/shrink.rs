@@ -4,7 +4,9 @@ use std::cell::Cell as Counter;
 use std::fmt;
 
 use fenstubble_reference::book::{Book, Head, Mode, ResourceRow};
-use fenstubble_reference::bytes::{self, read_rows, HEAD_LENGTH, LIMITS, MODE_PLACE, WIDTHS};
+use fenstubble_reference::bytes::{
+    self, read_rows, Version, HEAD_LENGTH, LIMITS, MODE_PLACE, VERSION_PLACE, WIDTHS,
+};
 use fenstubble_reference::numbers::{InnerVertex, OuterVertex, User};
 use fenstubble_reference::sets::UserSet;
 
@@ -69,7 +71,7 @@ impl Case {
     /// The same call with nothing lent that is longer than it has to be.
     fn with_plain_lengths(&self) -> Case {
         let mut case = self.clone();
-        let numbers = self.lent.head.len().min(7);
+        let numbers = self.lent.head.len().min(Head::NUMBERS);
         case.lent.head = Memory::of(&self.lent.head.content()[..numbers]);
         for (k, table) in case.lent.tables.iter_mut().enumerate() {
             let length = table.len().min(LIMITS[k] * WIDTHS[k]);
@@ -124,7 +126,7 @@ impl Case {
             Call::Write => self
                 .lent
                 .book_in_tables()
-                .map_or(0, |book| bytes::length(&book.head())),
+                .map_or(0, |book| bytes::length(&book.head(), Version::Two)),
             _ => numbers_needed(self.call, &self.lent),
         }
     }
@@ -140,7 +142,7 @@ impl fmt::Display for Case {
         if matches!(self.call, Call::Section(_)) {
             return Ok(());
         }
-        if lent.head.len() != 7 {
+        if lent.head.len() != Head::NUMBERS {
             writeln!(f, "a head of {} numbers", lent.head.len())?;
         }
         for (k, name) in TABLES.iter().enumerate() {
@@ -219,7 +221,8 @@ fn write_book(f: &mut fmt::Formatter<'_>, book: &Book) -> fmt::Result {
         let users: Vec<String> = set.users().map(|user| user.0.to_string()).collect();
         format!("{{{}}}", users.join(","))
     };
-    writeln!(f, "mode {}, {} users", book.mode, book.users)?;
+    let (mode, users, leavers) = (book.mode, book.users, set(&book.leavers));
+    writeln!(f, "mode {mode}, {users} users, leavers {leavers}")?;
     row(f, TABLES[0], book.inner_vertices.iter().map(set).collect())?;
     let tokens = book.inner_tokens.iter();
     let tokens = tokens.map(|token| format!("{}>{}:{}", token.from.0, token.to.0, token.kind));
@@ -235,13 +238,25 @@ fn write_book(f: &mut fmt::Formatter<'_>, book: &Book) -> fmt::Result {
     row(f, TABLES[4], resources.collect())
 }
 
-/// The head in the bytes, of which there are enough for it, whatever else they
-/// are.
+/// The version that the bytes are taken for, of which there are enough for a
+/// header: the one that is written, unless they say that they are old.
+pub(crate) fn version_in(bytes: &[u8]) -> Version {
+    let number = u16::from_le_bytes([bytes[VERSION_PLACE], bytes[VERSION_PLACE + 1]]);
+    Version::of(number).unwrap_or(Version::Two)
+}
+
+/// The head in the bytes, of which there are enough for a header, whatever else
+/// they are. Nobody has left where the set of leavers is not whole.
 pub(crate) fn head_in(bytes: &[u8]) -> Head {
     let number = |at: usize| u16::from_le_bytes([bytes[at], bytes[at + 1]]);
+    let set = bytes.get(version_in(bytes).leavers());
+    let leavers = set
+        .map(read_rows)
+        .and_then(|sets: Vec<_>| sets.first().copied());
     Head {
         mode: u16::from(bytes[5]),
         users: u16::from(bytes[6]),
+        leavers: leavers.unwrap_or_default(),
         resources: number(7),
         inner_vertices: number(9),
         inner_tokens: number(11),
@@ -255,6 +270,8 @@ pub(crate) fn head_in(bytes: &[u8]) -> Head {
 pub(crate) struct Loose {
     /// The bytes before the mode.
     mark: [u8; MODE_PLACE],
+    /// What they are taken for.
+    version: Version,
     /// The book, sound or not.
     pub(crate) book: Book,
     /// What comes after the rows.
@@ -268,13 +285,16 @@ impl Loose {
             return None;
         }
         let head = head_in(bytes);
-        let sections = bytes::sections(&head);
+        let version = version_in(bytes);
+        let sections = bytes::sections(&head, version);
         let part = |k: usize| bytes.get(sections[k].clone());
         Some(Loose {
             mark: bytes[..MODE_PLACE].try_into().ok()?,
+            version,
             book: Book {
                 mode: head.mode,
                 users: head.users,
+                leavers: head.leavers,
                 inner_vertices: read_rows(part(0)?),
                 inner_tokens: read_rows(part(1)?),
                 outer_vertices: read_rows(part(2)?),
@@ -292,7 +312,7 @@ impl Loose {
     }
 
     fn bytes(&self) -> Vec<u8> {
-        let mut bytes = bytes::write(&self.book);
+        let mut bytes = bytes::write_as(&self.book, self.version);
         bytes[..MODE_PLACE].copy_from_slice(&self.mark);
         bytes.extend_from_slice(&self.tail);
         bytes
@@ -342,8 +362,8 @@ pub fn fewer<T: Clone>(all: &[T], differs: impl Fn(&[T]) -> bool) -> Vec<T> {
 }
 
 /// The smallest book found that still differs: resources become one user's
-/// alone, rows and users are left out, many at once first, as long as that
-/// succeeds.
+/// alone, rows, users and leavers are left out, many at once first, as long as
+/// that succeeds.
 pub fn smallest_book(mut book: Book, differs: impl Fn(&Book) -> bool) -> Book {
     loop {
         let before = size(&book);
@@ -358,6 +378,13 @@ pub fn smallest_book(mut book: Book, differs: impl Fn(&Book) -> bool) -> Book {
             let rows: Vec<usize> = (0..count(&book, part)).collect();
             let kept = fewer(&rows, |kept| differs(&with_rows(&book, part, kept)));
             book = with_rows(&book, part, &kept);
+        }
+        for user in book.leavers.users() {
+            let mut back = book.clone();
+            back.leavers = back.leavers.without(user);
+            if differs(&back) {
+                book = back;
+            }
         }
         for user in (0..book.users.min(64)).rev() {
             let without = without_user(&book, User(user));
@@ -376,7 +403,8 @@ fn count(book: &Book, part: usize) -> usize {
 }
 
 fn size(book: &Book) -> usize {
-    book.head().counts().iter().sum::<usize>() + usize::from(book.users)
+    let leavers = book.leavers.size() as usize;
+    book.head().counts().iter().sum::<usize>() + usize::from(book.users) + leavers
 }
 
 /// The book with these rows of one table alone. Without a vertex go its
@@ -468,6 +496,7 @@ fn without_user(book: &Book, user: User) -> Book {
     for row in &mut book.resources {
         row.list = moved(row.list);
     }
+    book.leavers = moved(book.leavers);
     book
 }
 
@@ -504,12 +533,18 @@ mod tests {
         let mut random = Random::new(5);
         let shape = Shape::small(&mut random);
         let book = generate::book(&mut random, &shape);
-        let mut bytes = bytes::write(&book);
-        bytes[0] = 9;
-        bytes.extend([1, 2]);
-        let loose = Loose::of(&bytes).unwrap();
-        assert_eq!(loose.bytes(), bytes);
-        assert_eq!((loose.book, loose.tail), (book, vec![1, 2]));
-        assert!(Loose::of(&bytes[..16]).is_none());
+        for version in Version::ALL {
+            let mut bytes = bytes::write_as(&book, version);
+            bytes[0] = 9;
+            bytes.extend([1, 2]);
+            let loose = Loose::of(&bytes).unwrap();
+            assert_eq!(loose.bytes(), bytes);
+            let mut same = book.clone();
+            if version == Version::One {
+                same.leavers = UserSet::EMPTY;
+            }
+            assert_eq!((loose.book, loose.tail), (same, vec![1, 2]));
+            assert!(Loose::of(&bytes[..16]).is_none());
+        }
     }
 }

@@ -11,6 +11,9 @@ use fenstubble_reference::sets::UserSet;
 /// The bytes of a set: those of a row of inner vertices.
 pub const SET: usize = WIDTHS[0];
 
+/// The most orders that a request gives: those of a leave.
+pub const MOST_ORDERS: usize = 4608;
+
 /// A call with its numbers.
 #[derive(Clone, Copy, Debug, PartialEq, Eq)]
 pub enum Call {
@@ -31,6 +34,8 @@ pub enum Call {
     Grant(u16, u16),
     /// Revoke a resource from a user.
     Revoke(u16, u16),
+    /// Let a user leave.
+    Leave(u16),
     /// The view of a user on a resource.
     View(u16, u16),
     /// How a user opens a resource.
@@ -56,6 +61,7 @@ impl Call {
             Call::Insert(..) => "insert",
             Call::Grant(..) => "grant",
             Call::Revoke(..) => "revoke",
+            Call::Leave(_) => "leave",
             Call::View(..) => "view",
             Call::Open(..) => "open",
             Call::Serve => "serve",
@@ -69,6 +75,7 @@ impl fmt::Display for Call {
         write!(f, "{}", self.name())?;
         match *self {
             Call::Section(k) => write!(f, " {k}"),
+            Call::Leave(user) => write!(f, " {user}"),
             Call::Insert(list, _) => UserSet(list)
                 .users()
                 .try_for_each(|user| write!(f, " {}", user.0)),
@@ -114,7 +121,7 @@ pub struct Odd {
 }
 
 /// What a call is lent; what it does not take is not touched. The head is at
-/// least 7 numbers and changes in place; a shorter one is refused with 13,
+/// least 11 numbers and changes in place; a shorter one is refused with 13,
 /// like a table.
 #[derive(Debug)]
 pub struct Lending<'a> {

@@ -73,6 +73,7 @@ fn words(call: Call, lent: &mut Lending, cells: &mut [usize; 3]) -> (*const (), 
         Call::Insert(..) => of!(fenstubble_insert(tables, list, [one], set)),
         Call::Grant(r, u) => of!(fenstubble_grant(tables, list, [one, word(r), word(u)])),
         Call::Revoke(r, u) => of!(fenstubble_revoke(tables, list, [one, word(r), word(u)])),
+        Call::Leave(u) => of!(fenstubble_leave(tables, list, [one, word(u)])),
         Call::View(u, r) => of!(fenstubble_view(tables, [word(u), word(r), one])),
         Call::Open(u, r) => of!(fenstubble_open(
             tables,

@@ -7,15 +7,18 @@
 use std::cell::Cell;
 use std::slice::from_raw_parts_mut;
 
-use fenstubble_reference::book::{Book, InnerToken, SoundBook};
-use fenstubble_reference::bytes::{read, sections, COUNT_PLACES, WIDTHS};
+use fenstubble_reference::book::{Book, Head, InnerToken, ResourceRow, SoundBook};
+use fenstubble_reference::bytes::{
+    read, read_rows, sections, write, Version, COUNT_PLACES, LEAVERS_PLACE, VERSION_PLACE, WIDTHS,
+};
 use fenstubble_reference::lent::Tables;
+use fenstubble_reference::numbers::User;
 use fenstubble_reference::refusal::Refusal;
 use fenstubble_reference::sets::UserSet;
 use fenstubble_reference::sound::limited;
 
-use crate::model::Model;
-use crate::shrink::{head_in, Loose};
+use crate::model::{head_of, list_of, Model};
+use crate::shrink::{head_in, version_in, Loose};
 use crate::side::{Call, Given, Lending, Side, SET};
 
 /// What is wrong with the stand-in.
@@ -35,7 +38,7 @@ pub enum Fault {
     PastTheEnd,
     /// Reading clears the row after the last one used.
     UnusedRow,
-    /// Reading and checking forget the last number of the head.
+    /// Reading and checking forget the last count of the head.
     HeadForgotten,
     /// Writing says one byte too many.
     WrongLength,
@@ -98,6 +101,43 @@ pub enum Fault {
     PlaceCut,
     /// Only the two lowest bytes of a place are written.
     PlaceHalf,
+    /// A leave takes the user off the first list alone.
+    FirstList,
+    /// A leave takes the user off the lists from the last to the first.
+    LastListFirst,
+    /// A leave takes the user off one list after the other; where one is
+    /// refused, it ends there, and what it did stays.
+    ListByList,
+    /// The same, but what it did is taken back: the number is that of the list.
+    NumberByList,
+    /// A leave does not note who has left.
+    LeaverForgotten,
+    /// A second leave is accepted.
+    LeaveAgain,
+    /// A join takes the number of the first who has left.
+    NumberAgain,
+    /// A request of that name lets leavers in again.
+    LeaverBack(&'static str),
+    /// 15 stands before 1, in requests of that name.
+    FifteenFirst(&'static str),
+    /// 15 stands behind all others, in requests of that name.
+    FifteenLast(&'static str),
+    /// A leave among several is refused where its third number is not 0.
+    ThirdNumber,
+    /// A head without the set of leavers is taken.
+    SevenNumbers,
+    /// Version 1 is not read.
+    OldRefused,
+    /// Reading version 1 leaves the leavers in the head as they were.
+    OldLeaversKept,
+    /// Places in version 1 are told by the layout of version 2.
+    OldPlaces,
+    /// A book that nobody has left is written as version 1.
+    WritesOld,
+    /// A leaver on a list is told at the set of leavers.
+    LeaverAtSet,
+    /// The set of leavers is judged behind all rows.
+    LeaversLast,
 }
 
 thread_local! {
@@ -170,14 +210,39 @@ fn misplaced(bytes: &[u8], no: Refusal) -> Refusal {
     elsewhere(bytes, no.number, no.place_number()).unwrap_or(no)
 }
 
+/// What is told in the place of 31 to 38 where leavers and versions are looked
+/// at otherwise, if anything.
+fn elsewhere_by_version(bytes: &[u8], place: usize) -> Option<usize> {
+    let book = Loose::of(bytes)?.book;
+    let folders = sections(&book.head(), version_in(bytes))[4].start;
+    match FAULT.get() {
+        Fault::OldPlaces if version_in(bytes) == Version::One && place != 65535 => Some(place + 8),
+        Fault::LeaverAtSet if place >= folders && place != 65535 => {
+            let row = book.resources.get((place - folders) / WIDTHS[4])?;
+            let named = row.list.common(book.leavers);
+            (!named.is_empty()).then_some(LEAVERS_PLACE)
+        }
+        Fault::LeaversLast if place == LEAVERS_PLACE && !book.leavers.within(book.joined()) => {
+            let mut other = book.clone();
+            other.leavers = book.leavers.common(book.joined());
+            let fault = read(&write(&other)).err()?;
+            (fault.number() == 31).then_some(fault.place())
+        }
+        _ => None,
+    }
+}
+
 /// What is told in the place of that number and place, if anything.
 fn elsewhere(bytes: &[u8], number: u8, place: usize) -> Option<Refusal> {
+    if let (31..=38, Some(place)) = (number, elsewhere_by_version(bytes, place)) {
+        return Some(Refusal::misread(number, place));
+    }
     match number {
         _ if planted(Fault::PlaceCut) => Some(Refusal::misread(number, place % 65536)),
         23 => other_count(bytes),
         31..=38 => {
             let book = Loose::of(bytes)?.book;
-            let starts = sections(&book.head()).map(|section| section.start);
+            let starts = sections(&book.head(), version_in(bytes)).map(|section| section.start);
             let k = (0..5).rfind(|&k| starts[k] <= place)?;
             let row = (place - starts[k]) / WIDTHS[k];
             let (k, row) = match (FAULT.get(), place) {
@@ -298,6 +363,22 @@ fn nothing<'a>() -> Lending<'a> {
     }
 }
 
+/// A head; one without leavers is taken for one that nobody has left, if that is
+/// the fault.
+///
+/// # Safety
+/// As for [`from_raw_parts_mut`].
+unsafe fn head_slice<'a>(start: *const u16, length: usize) -> &'a mut [u16] {
+    let head = slice(start, length);
+    if planted(Fault::SevenNumbers) && (7..Head::NUMBERS).contains(&length) {
+        let mut whole = head.to_vec();
+        whole.resize(7, 0);
+        whole.resize(Head::NUMBERS, 0);
+        return Vec::leak(whole);
+    }
+    head
+}
+
 /// A C function whose head and five tables are lent under one name.
 macro_rules! with_tables {
     (fn $name:ident($($before:ident: $before_type:ty),*; $pointer:tt $lent:ident; $($after:ident: $after_type:ty),*) $body:block) => {
@@ -313,7 +394,7 @@ macro_rules! with_tables {
             $($after: $after_type),*
         ) -> u16 {
             let $lent = &mut Lending {
-                head: slice(head, head_len),
+                head: head_slice(head, head_len),
                 tables: Tables {
                     inner_vertices: slice(inner_vertices, inner_vertices_len),
                     inner_tokens: slice(inner_tokens, inner_tokens_len),
@@ -331,7 +412,7 @@ macro_rules! with_tables {
 
 with_tables! {
     fn fenstubble_check(; const lent;) {
-        if planted(Fault::HeadForgotten) && lent.head.len() == 7 {
+        if planted(Fault::HeadForgotten) && lent.head.len() == Head::NUMBERS {
             lent.head[6] = 0;
         }
         reply(Call::Check, lent).0
@@ -340,7 +421,7 @@ with_tables! {
 
 #[no_mangle]
 extern "C" fn fenstubble_version() -> u32 {
-    30000
+    40000
 }
 
 #[no_mangle]
@@ -377,7 +458,15 @@ with_tables! {
             *place = 0;
             return reply(Call::Check, lent).0.max(12);
         }
-        let (code, _, at) = placed(Call::Read, lent);
+        let old = book_len > VERSION_PLACE && lent.book[VERSION_PLACE] == 1;
+        let before = lent.head.to_vec();
+        let (mut code, _, mut at) = placed(Call::Read, lent);
+        if code == 0 && old && planted(Fault::OldLeaversKept) {
+            lent.head[7..Head::NUMBERS].copy_from_slice(&before[7..Head::NUMBERS]);
+        }
+        if code == 0 && old && planted(Fault::OldRefused) {
+            (code, at) = (21, VERSION_PLACE);
+        }
         put_place(Call::Read, code, &mut *place, at);
         let tables = &mut lent.tables;
         if code == 0 && planted(Fault::HeadForgotten) {
@@ -399,7 +488,12 @@ with_tables! {
 with_tables! {
     fn fenstubble_write(; const lent; buffer: *mut u8, buffer_len: usize, length: *mut usize) {
         lent.buffer = slice(buffer, buffer_len);
-        let (code, [given, _]) = reply(Call::Write, lent);
+        let (code, [mut given, _]) = reply(Call::Write, lent);
+        if code == 0 && planted(Fault::WritesOld) && lent.head[7..Head::NUMBERS] == [0; 4] {
+            lent.buffer[VERSION_PLACE] = 1;
+            lent.buffer.copy_within(Version::Two.leavers().end..given, LEAVERS_PLACE);
+            given -= 8;
+        }
         let told = given + usize::from(planted(Fault::WrongLength));
         put(Call::Write, code, &mut [(&mut *length, told)]);
         if code == 0 && planted(Fault::PastTheAnswer) {
@@ -409,9 +503,152 @@ with_tables! {
     }
 }
 
+/// Head and tables, and the order list behind so many rows.
+fn rest<'a>(lent: &'a mut Lending, rows: usize) -> Lending<'a> {
+    let tables = &mut lent.tables;
+    Lending {
+        head: &mut *lent.head,
+        tables: Tables {
+            inner_vertices: &mut *tables.inner_vertices,
+            inner_tokens: &mut *tables.inner_tokens,
+            outer_vertices: &mut *tables.outer_vertices,
+            outer_tokens: &mut *tables.outer_tokens,
+            resources: &mut *tables.resources,
+        },
+        list: &mut lent.list[3 * rows..],
+        set: &mut *lent.set,
+        ..nothing()
+    }
+}
+
+/// What a call that may be taken back can have changed.
+fn kept(lent: &Lending) -> [Vec<u8>; 7] {
+    let numbers = |numbers: &[u16]| numbers.iter().flat_map(|n| n.to_le_bytes()).collect();
+    let tables = &lent.tables;
+    [
+        numbers(lent.head),
+        tables.inner_vertices.to_vec(),
+        tables.inner_tokens.to_vec(),
+        tables.outer_vertices.to_vec(),
+        tables.outer_tokens.to_vec(),
+        tables.resources.to_vec(),
+        numbers(lent.list),
+    ]
+}
+
+fn take_back(lent: &mut Lending, kept: &[Vec<u8>; 7]) {
+    fn numbers(from: &[u8], to: &mut [u16]) {
+        for (two, number) in from.chunks_exact(2).zip(to) {
+            *number = u16::from_le_bytes([two[0], two[1]]);
+        }
+    }
+    let tables = &mut lent.tables;
+    numbers(&kept[0], lent.head);
+    tables.inner_vertices.copy_from_slice(&kept[1]);
+    tables.inner_tokens.copy_from_slice(&kept[2]);
+    tables.outer_vertices.copy_from_slice(&kept[3]);
+    tables.outer_tokens.copy_from_slice(&kept[4]);
+    tables.resources.copy_from_slice(&kept[5]);
+    numbers(&kept[6], lent.list);
+}
+
+/// Puts the set of leavers into the head.
+fn put_leavers(lent: &mut Lending, leavers: UserSet) {
+    if let Ok(head) = head_of(lent.head) {
+        let head = Head { leavers, ..head };
+        lent.head[..Head::NUMBERS].copy_from_slice(&head.numbers());
+    }
+}
+
+/// The reply to a request with the fault that is planted, where it is one about
+/// leavers and the tables hold a sound book.
+fn misled(call: Call, lent: &mut Lending) -> Option<(u16, [usize; 2])> {
+    let fault = FAULT.get();
+    let head = head_of(lent.head).ok()?;
+    if fault == Fault::None || reply(Call::Check, lent).0 != 0 {
+        return None;
+    }
+    let folders = usize::from(head.resources);
+    let folders: Vec<ResourceRow> = read_rows(&lent.tables.resources[..folders * WIDTHS[4]]);
+    let joined = UserSet::first(head.users);
+    let list = list_of(lent.set).map_or(UserSet::EMPTY, UserSet);
+    // Whom the request names, and whether there is another number that is none.
+    let (named, strange) = match call {
+        Call::Grant(r, u) => (UserSet::alone(User(u)), usize::from(r) >= folders.len()),
+        Call::Insert(..) => (list, !list.within(joined)),
+        Call::Leave(u) => (UserSet::alone(User(u)), false),
+        Call::Join => (UserSet::EMPTY, false),
+        _ => return None,
+    };
+    let left = named.common(head.leavers);
+    match (fault, call) {
+        (Fault::NumberAgain, Call::Join) if !head.leavers.is_empty() => {
+            let first = head.leavers.users().next()?;
+            put_leavers(lent, head.leavers.without(first));
+            Some((0, [0, 0]))
+        }
+        (Fault::LeaveAgain, Call::Leave(_)) if !left.is_empty() => Some((0, [0, 0])),
+        (Fault::LeaverForgotten, Call::Leave(_)) => {
+            let replied = reply(call, lent);
+            put_leavers(lent, head.leavers);
+            Some(replied)
+        }
+        (Fault::FifteenFirst(name), _) if name == call.name() && !left.is_empty() && strange => {
+            Some((15, [0, 0]))
+        }
+        (Fault::LeaverBack(name), _) if name == call.name() && !left.is_empty() && !strange => {
+            let before = kept(lent);
+            put_leavers(lent, head.leavers.minus(left));
+            let (code, cells) = reply(call, lent);
+            if code != 0 {
+                take_back(lent, &before);
+            }
+            Some((code, cells))
+        }
+        (Fault::FifteenLast(name), _) if name == call.name() && !left.is_empty() && !strange => {
+            let before = kept(lent);
+            put_leavers(lent, head.leavers.minus(left));
+            let (code, _) = reply(call, lent);
+            take_back(lent, &before);
+            Some((if code == 0 { 15 } else { code }, [0, 0]))
+        }
+        (
+            Fault::FirstList | Fault::LastListFirst | Fault::ListByList | Fault::NumberByList,
+            Call::Leave(u),
+        ) if left.is_empty() && named.within(joined) && !named.is_empty() => {
+            let before = kept(lent);
+            let mut lists: Vec<u16> = (0..head.resources)
+                .filter(|&r| folders[usize::from(r)].list.names(User(u)))
+                .collect();
+            match fault {
+                Fault::FirstList => lists.truncate(1),
+                Fault::LastListFirst => lists.reverse(),
+                _ => {}
+            }
+            let mut used = 0;
+            for r in lists {
+                let (code, [rows, _]) = reply(Call::Revoke(r, u), &mut rest(lent, used));
+                if code != 0 {
+                    if fault != Fault::ListByList {
+                        take_back(lent, &before);
+                    }
+                    // Of 10 only the whole can tell.
+                    let whole = fault == Fault::NumberByList && code == 10;
+                    return (!whole).then_some((code, [0, 0]));
+                }
+                used += rows;
+            }
+            put_leavers(lent, head.leavers.union(named));
+            Some((0, [used, 0]))
+        }
+        _ => None,
+    }
+}
+
 /// A request that changes the book, and its faults.
 fn ordered(call: Call, lent: &mut Lending, count: &mut u16) -> u16 {
-    let (code, [rows, _]) = reply(call, lent);
+    let misled = misled(call, lent);
+    let (code, [rows, _]) = misled.unwrap_or_else(|| reply(call, lent));
     let told = rows + usize::from(planted(Fault::WrongCount));
     put(call, code, &mut [(count, told)]);
     if code == 0 && planted(Fault::PastTheRows) {
@@ -502,6 +739,13 @@ with_tables! {
 }
 
 with_tables! {
+    fn fenstubble_leave(; mut lent; orders: *mut u16, orders_len: usize, count: *mut u16, user: u16) {
+        lent.list = slice(orders, orders_len);
+        ordered(Call::Leave(user), lent, &mut *count)
+    }
+}
+
+with_tables! {
     fn fenstubble_view(; const lent; user: u16, resource: u16, view: *mut u16) {
         let call = Call::View(user, resource);
         let (code, [number, _]) = reply(call, lent);
@@ -529,6 +773,14 @@ with_tables! {
     fn fenstubble_serve(; mut lent; requests: *const u64, requests_len: usize, answers: *mut u16, answers_len: usize, orders: *mut u16, orders_len: usize, used: *mut usize) {
         let served = if planted(Fault::FirstAlone) { requests_len.min(3) } else { requests_len };
         lent.requests = slice(requests, served);
+        if planted(Fault::ThirdNumber) {
+            lent.requests = Vec::leak(lent.requests.to_vec());
+            for row in lent.requests.chunks_exact_mut(3) {
+                if row[0] == 5 && row[2] != 0 {
+                    row[0] = 6;
+                }
+            }
+        }
         lent.answers = slice(answers, answers_len);
         lent.list = slice(orders, orders_len);
         let (code, [rows, _]) = reply(Call::Serve, lent);

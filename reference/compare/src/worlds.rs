@@ -7,7 +7,7 @@ use fenstubble_reference::book::{
     Book, Mode, ResourceRow, SoundBook, MAX_INNER_TOKENS, MAX_OUTER_GROUPS, MAX_OUTER_TOKENS,
     MAX_RESOURCES, MAX_USERS,
 };
-use fenstubble_reference::generate::{member, Random};
+use fenstubble_reference::generate::{member, padded, Random};
 use fenstubble_reference::numbers::{InnerVertex, OuterVertex, Resource, User};
 use fenstubble_reference::requests::{cover, Request};
 use fenstubble_reference::sets::UserSet;
@@ -187,6 +187,99 @@ pub fn chained() -> SoundBook {
     book
 }
 
+/// The one who leaves in [`listed`], [`filled_listed`] and [`most_listed`].
+pub const LEAVER: User = User(63);
+
+/// 64 people and 256 folders, by requests alone: each list names the last
+/// person and 15 others, no two alike, so that the inner tokens are at their
+/// limit. When that person leaves, each folder gets an outer vertex of its own,
+/// with 15 tokens.
+pub fn listed() -> Run {
+    listed_with(15)
+}
+
+/// The same with 14 others, and with spare outer vertices: the leave makes as
+/// many as there may be.
+pub fn filled_listed() -> Book {
+    let book = listed_with(14).book.into_book();
+    let spare = MAX_OUTER_GROUPS - MAX_RESOURCES;
+    padded(&mut Random::new(448), &book, LEAVER, spare, 0)
+}
+
+/// Lists of the last person and so many others.
+fn listed_with(count: usize) -> Run {
+    let random = &mut Random::new(4_352);
+    let mut run = Run::new();
+    for _ in 0..MAX_USERS {
+        run.ask(Request::Join);
+    }
+    let others = UserSet::first(LEAVER.0);
+    while run.book.book().resources.len() < MAX_RESOURCES {
+        let list = some_users(random, others, count).with(LEAVER);
+        if run.book.book().inner_vertex_of(list).is_none() {
+            run.ask(Request::Insert(list.into()));
+        }
+    }
+    run
+}
+
+/// The same with the most orders that a leave can give, 4,608, in a book that
+/// no requests lead to: lists of 24 others, and then lists of 8 of these. The
+/// inner vertex of the larger list has a token from that of the smaller one,
+/// but the outer vertex for the larger list is made first.
+pub fn most_listed() -> Book {
+    let random = &mut Random::new(4_608);
+    let others = UserSet::first(LEAVER.0);
+    let mut lists: Vec<UserSet> = Vec::new();
+    while lists.len() < MAX_RESOURCES / 2 {
+        let list = some_users(random, others, 24);
+        if !lists.contains(&list) {
+            lists.push(list);
+        }
+    }
+    for at in 0..MAX_RESOURCES / 2 {
+        loop {
+            let list = some_users(random, lists[at], 8);
+            if !lists.contains(&list) {
+                lists.push(list);
+                break;
+            }
+        }
+    }
+    let all = UserSet::first(MAX_USERS as u16);
+    let own: Vec<UserSet> = all.users().map(UserSet::alone).collect();
+    let mut inner_vertices = own.clone();
+    let mut inner = Vec::new();
+    for (at, list) in lists.iter().enumerate() {
+        let to = MAX_USERS + at;
+        inner_vertices.push(list.with(LEAVER));
+        let smaller = lists.get(at + MAX_RESOURCES / 2);
+        let rest = match smaller {
+            Some(smaller) => {
+                inner.push((to + MAX_RESOURCES / 2, to));
+                list.minus(*smaller)
+            }
+            None => list.with(LEAVER),
+        };
+        inner.extend(rest.users().map(|user| (user.index(), to)));
+    }
+    let resources = lists.iter().enumerate().map(|(at, list)| ResourceRow {
+        list: list.with(LEAVER),
+        inner: InnerVertex::at(MAX_USERS + at),
+        outer: None,
+    });
+    Book {
+        mode: Mode::Delta.number(),
+        users: MAX_USERS as u16,
+        leavers: UserSet::EMPTY,
+        resources: resources.collect(),
+        inner_tokens: inner_tokens(&inner),
+        outer_tokens: Vec::new(),
+        inner_vertices,
+        outer_vertices: own,
+    }
+}
+
 /// So many random users of a set.
 fn some_users(random: &mut Random, all: UserSet, count: usize) -> UserSet {
     let mut set = UserSet::EMPTY;
@@ -256,6 +349,7 @@ pub fn grown(inner_groups: usize, outer_groups: usize, tokens: usize) -> Book {
     Book {
         mode: Mode::Delta.number(),
         users: 64,
+        leavers: UserSet::EMPTY,
         resources: resources.collect(),
         inner_tokens: inner_tokens(&inner),
         outer_tokens: outer_tokens(&outer),
@@ -292,6 +386,25 @@ mod tests {
         let open = Request::Open(User(0), Resource(62));
         let answer = book.answer(&open, usize::MAX).unwrap();
         assert_eq!(answer.count(), 2 * 63);
+    }
+
+    #[test]
+    fn the_books_of_leaves() {
+        let mut book = listed().book;
+        assert_eq!(book.book().head().counts(), [320, 4096, 64, 0, 256]);
+        assert_eq!(book.leave(LEAVER, usize::MAX).unwrap().len(), 256 * 17);
+        assert_eq!(book.book().head().counts(), [320, 4096, 320, 3840, 256]);
+        let book = filled_listed();
+        assert_eq!(book.outer_groups(), 192);
+        let mut book = SoundBook::new(book).unwrap();
+        assert_eq!(book.leave(LEAVER, usize::MAX).unwrap().len(), 256 * 16);
+        assert_eq!(book.book().head().counts(), [320, 3840, 512, 3968, 256]);
+        let book = most_listed();
+        assert_eq!(sound(&book), Ok(()));
+        let mut book = SoundBook::new(book).unwrap();
+        assert_eq!(book.leave(LEAVER, usize::MAX).unwrap().len(), 4608);
+        assert_eq!(book.book().outer_groups(), 256);
+        assert_eq!(book.book().outer_tokens.len(), 4096);
     }
 
     #[test]

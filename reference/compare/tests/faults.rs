@@ -48,7 +48,7 @@ fn faults_in_books() {
         (
             Fault::WrongLength,
             "write",
-            "engine Length(18), model Length(17)",
+            "engine Length(26), model Length(25)",
         ),
         (
             Fault::PastTheAnswer,
@@ -56,6 +56,14 @@ fn faults_in_books() {
             "the buffer 0 past the lent end: engine 0",
         ),
         (Fault::FewResources, "read", "engine no 12, model Nothing"),
+        (Fault::OldRefused, "read", "engine no 21 3, model Nothing"),
+        (Fault::OldLeaversKept, "read", "the head at"),
+        (
+            Fault::WritesOld,
+            "write",
+            "engine Length(17), model Length(25)",
+        ),
+        (Fault::SevenNumbers, "", "model no 13"),
     ] {
         let report = found(fault, books::run);
         assert!(report.call.starts_with(call), "{fault:?}: {report}");
@@ -77,6 +85,9 @@ fn faults_in_places() {
         (Fault::TokenOfGroup, "engine no 35 ", "model no 35 "),
         (Fault::PlaceCut, "engine no 24 ", "model no 24 "),
         (Fault::PlaceHalf, "engine no 24 ", "model no 24 "),
+        (Fault::OldPlaces, "engine no 3", "model no 3"),
+        (Fault::LeaverAtSet, "engine no 31 17", "model no 31 "),
+        (Fault::LeaversLast, "engine no 31 ", "model no 31 17"),
     ] {
         misplaced(fault, engine, model);
     }
@@ -196,6 +207,37 @@ mod requests {
             (Fault::ShortSet, "insert", "model no 13"),
             (Fault::LongSet, "insert", "engine no 1, model Orders("),
             (Fault::SetCleared, "insert", "the set at"),
+            (Fault::FirstList, "leave", "engine Orders("),
+            (Fault::LastListFirst, "leave", "the list at"),
+            (
+                Fault::ListByList,
+                "leave",
+                "it should have stayed as it was",
+            ),
+            (Fault::NumberByList, "leave", "engine no 9, model no 7"),
+            (Fault::LeaverForgotten, "leave", "the head at"),
+            (Fault::LeaveAgain, "leave", "engine Orders(0), model no 15"),
+            (
+                Fault::NumberAgain,
+                "join",
+                "engine Orders(0), model Orders(2)",
+            ),
+            (Fault::LeaverBack("grant"), "grant", "model no 15"),
+            (Fault::LeaverBack("insert"), "insert", "model no 15"),
+            (
+                Fault::FifteenFirst("grant"),
+                "grant",
+                "engine no 15, model no 1",
+            ),
+            (
+                Fault::FifteenFirst("insert"),
+                "insert",
+                "engine no 15, model no 1",
+            ),
+            (Fault::FifteenLast("grant"), "grant", "model no 15"),
+            (Fault::FifteenLast("insert"), "insert", "model no 15"),
+            (Fault::ThirdNumber, "serve", "the answers at"),
+            (Fault::SevenNumbers, "", "model no 13"),
         ] {
             let report = found(fault, requests::run);
             assert!(report.call.starts_with(call), "{fault:?}: {report}");
@@ -211,6 +253,7 @@ mod requests {
             ("insert", 0),
             ("grant", 0),
             ("revoke", 0),
+            ("leave", 0),
             ("view", 0),
             ("open", 0),
             ("open", 1),
@@ -224,7 +267,7 @@ mod requests {
     fn the_smallest_script() {
         // Past the fixed cases, until a run from the empty book finds it: two
         // users are as few as make a chain, and one list of both.
-        let scripts = (10..40).filter_map(|first| {
+        let scripts = (13..213).filter_map(|first| {
             let report = found(Fault::ChainsSwapped, |bounds| {
                 requests::run(Bounds { first, ..bounds })
             });

@@ -17,5 +17,6 @@ fn inspections_alike() {
     println!("{summary}");
     // It was no empty comparison.
     assert_eq!(summary.never_met(), [0; 0], "{summary}");
-    assert!(summary.sound > 100, "{summary}");
+    assert!(summary.sound.iter().all(|&some| some > 50), "{summary}");
+    assert!(summary.left > 50 && summary.leavers > 10, "{summary}");
 }

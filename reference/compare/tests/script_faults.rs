@@ -29,7 +29,7 @@ fn nothing_where_nothing_differs() {
     println!("{summary}");
     // It was no empty comparison.
     assert_eq!(summary.missing(), [""; 0]);
-    assert!(summary.most_rows >= 320, "{summary}");
+    assert!(summary.most_rows >= 4352, "{summary}");
 }
 
 #[test]
@@ -77,6 +77,12 @@ fn faults_in_numbers_and_answers() {
         ),
         ("folder-first", "'full\\njoin\\ninsert 0\\n'"),
         ("few-order-rows", "engine `no 10\\n`, reference `ok 320\\n`"),
+        (
+            "few-leave-rows",
+            "engine `no 10\\n`, reference `ok 4352\\n`",
+        ),
+        ("leaves-again", "'delta\\njoin\\nleave 0\\nleave 0\\n'"),
+        ("no-leaves", "'delta\\njoin\\nleave 0\\n'"),
         ("status-3", "it ended with exit status: 3"),
         ("aborts", "it ended with signal: 6"),
     ] {

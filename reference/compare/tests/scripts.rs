@@ -10,14 +10,15 @@ fn scripts_alike() {
     let bounds = Bounds {
         seed: 1,
         first: 0,
-        count: 100_000,
+        count: 130_000,
         time: None,
     };
     let summary = scripts::run(&desk, bounds).unwrap_or_else(|report| panic!("{report}"));
     println!("{summary}");
     // It was no empty comparison.
     assert_eq!(summary.missing(), [""; 0]);
-    assert!(summary.most_rows >= 320, "{summary}");
+    assert!(summary.most_rows >= 4352, "{summary}");
+    assert!(summary.leaves.iter().all(|&some| some > 200), "{summary}");
     // And the order of the orders shows.
     assert!(summary.locks.grants > 50, "{summary}");
     assert!(summary.locks.inserts > 50, "{summary}");

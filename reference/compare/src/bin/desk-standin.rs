@@ -58,6 +58,10 @@ fn misread(fault: &str, input: Vec<u8>) -> Vec<u8> {
             input.dedup_by(|b, a| *a == b'\n' && *b == b'\n');
             input
         }
+        "no-leaves" => words(&input, |word| match word {
+            "leave" => Some("view".into()),
+            _ => Some(word.into()),
+        }),
         "stops-at-malformed" => {
             let first = input.split_inclusive(|&byte| byte == b'\n');
             let mut kept = Vec::new();
@@ -153,6 +157,12 @@ fn miswritten(fault: &str, output: Vec<u8>) -> Vec<u8> {
                 _ => 2,
             });
         }),
+        // As a list of 4,351 rows would have it.
+        "few-leave-rows" => match text.find("ok 4352\n") {
+            Some(at) => [&output[..at], b"no 10\n"].concat(),
+            None => output,
+        },
+        "leaves-again" => text.replace("no 15\n", "ok 0\n").into(),
         // As a list of 319 rows would have it.
         "few-order-rows" => match text.find("ok 320\n") {
             Some(at) => [&output[..at], b"no 10\n"].concat(),

@@ -64,6 +64,13 @@ fn miswritten(fault: &str, output: String) -> String {
             lines.swap(4, 5);
             format!("{}\n", lines.join("\n"))
         }
+        "eight-lines" if is_sound => format!("{}\n", lines[..8].join("\n")),
+        // Those who have not left are counted.
+        "staying" if is_sound => {
+            let count = |line: &str| line.rsplit(' ').next().and_then(|n| n.parse().ok());
+            let [users, leavers]: [usize; 2] = [lines[2], lines[8]].map(|l| count(l).unwrap_or(0));
+            format!("{}\nleavers {}\n", lines[..8].join("\n"), users - leavers)
+        }
         "folders-as-resources" => output.replace("folders", "resources"),
         _ => output,
     }
@@ -74,7 +81,10 @@ fn main() -> ExitCode {
     let Ok(input) = misread(&fault) else {
         return ExitCode::FAILURE;
     };
-    let report = inspect::report(&input);
+    let mut report = inspect::report(&input);
+    if fault == "old-refused" && input.get(3) == Some(&1) && report.starts_with("sound\n") {
+        report = "no 21 3\nanother version\n".into();
+    }
     let is_sound = report.starts_with("sound\n");
     let written = io::stdout().write_all(miswritten(&fault, report).as_bytes());
     if fault == "aborts" && !is_sound {

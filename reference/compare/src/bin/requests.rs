@@ -1,4 +1,4 @@
-//! Compares join, insert, grant, revoke, view and open.
+//! Compares join, insert, grant, revoke, leave, view and open.
 
 use std::process::ExitCode;
 
