@@ -1,4 +1,5 @@
-/* Keeps a small book in memory through fenstubble.h: three people, two folders, a grant, a revoke; then to a file and back.
+/* Keeps a small book in memory through fenstubble.h: three people, two folders, a grant, a revoke; then to a file and back; and
+ * somebody leaves.
  *
  *     cc keep.c $(pkg-config --cflags --libs fenstubble) -o keep && ./keep book.tkb
  *
@@ -114,7 +115,10 @@ static uint16_t read_book(struct book *book, const uint8_t *bytes, size_t length
     printf("  refused: %u at %zu", result, place);
     if (result >= FENSTUBBLE_BROKEN_S1 && place != FENSTUBBLE_NO_ROW) {
         struct fenstubble_row row = fenstubble_row_at(bytes, place);
-        printf(", %s row %zu", sections[row.section], row.number);
+        if (row.section < FENSTUBBLE_SECTIONS)
+            printf(", %s row %zu", sections[row.section], row.number);
+        else
+            printf(", the set of leavers");
     }
     printf(": %s\n", fenstubble_reason(result));
     return result;
@@ -187,6 +191,14 @@ int main(int argc, char **argv) {
     printf("grant folder 0 to person 1 again\n");
     accepted(fenstubble_grant(BOOK(&again), ORDERS, 0, 1));
     open_folder(&again, 1, 0, FENSTUBBLE_VIEW_OPEN);
+
+    /* Who leaves is taken off every list at once, and is on none again. */
+    printf("person 1 leaves\n");
+    accepted(fenstubble_leave(BOOK(&again), ORDERS, 1));
+    expect(fenstubble_has_left(again.head, 1) && !fenstubble_has_left(again.head, 0), "one who has left, and one who has not");
+    open_folder(&again, 1, 1, FENSTUBBLE_VIEW_OUTER_LOCKED);
+    printf("grant folder 0 to person 1 once more\n");
+    refused(fenstubble_grant(BOOK(&again), ORDERS, 0, 1), FENSTUBBLE_HAS_LEFT);
 
     /* Nothing that is not a sound book is taken for one. */
     back[length - 4] ^= 1;

@@ -33,7 +33,10 @@ std::string broken(const Bytes &bytes, std::uint16_t result, std::size_t place) 
     std::string text = std::to_string(result) + " at " + std::to_string(place);
     if (result >= FENSTUBBLE_BROKEN_S1 && place != FENSTUBBLE_NO_ROW) {
         const fenstubble_row row = fenstubble_row_at(bytes.data(), place);
-        text += std::string(", ") + sections[row.section] + " row " + std::to_string(row.number);
+        if (row.section < FENSTUBBLE_SECTIONS)
+            text += std::string(", ") + sections[row.section] + " row " + std::to_string(row.number);
+        else
+            text += ", the set of leavers";
     }
     return text + ": " + fenstubble_reason(result);
 }
@@ -90,11 +93,13 @@ public:
 
     unsigned users() const { return head[FENSTUBBLE_HEAD_USERS]; }
     unsigned folders() const { return head[FENSTUBBLE_HEAD_RESOURCES]; }
+    bool has_left(std::uint16_t user) const { return fenstubble_has_left(head.data(), user) != 0; }
 
     void check() { done(call(fenstubble_check)); }
     std::vector<Order> join() { return ordered(fenstubble_join); }
     std::vector<Order> grant(std::uint16_t folder, std::uint16_t user) { return ordered(fenstubble_grant, folder, user); }
     std::vector<Order> revoke(std::uint16_t folder, std::uint16_t user) { return ordered(fenstubble_revoke, folder, user); }
+    std::vector<Order> leave(std::uint16_t user) { return ordered(fenstubble_leave, user); }
 
     // A set of people is bytes: bit i % 8 of byte i / 8 for person i.
     std::vector<Order> insert(std::initializer_list<unsigned> people) {
@@ -218,6 +223,14 @@ void keep(const std::string &path) {
     std::printf("grant folder 0 to person 1 again\n");
     accepted(again.grant(0, 1));
     open_folder(again, 1, 0, FENSTUBBLE_VIEW_OPEN);
+
+    // Who leaves is taken off every list at once, and is on none again.
+    std::printf("person 1 leaves\n");
+    accepted(again.leave(1));
+    expect(again.has_left(1) && !again.has_left(0), "one who has left, and one who has not");
+    open_folder(again, 1, 1, FENSTUBBLE_VIEW_OUTER_LOCKED);
+    std::printf("grant folder 0 to person 1 once more\n");
+    std::printf("  refused: %u\n", refused([&] { again.grant(0, 1); }, FENSTUBBLE_HAS_LEFT).result);
 
     // Nothing that is not a sound book is taken for one.
     back[bytes.size() - 4] ^= 1;

@@ -1,5 +1,6 @@
 //! Keeps a small book in memory through the C interface, fenstubble.h: three
-//! people, two folders, a grant, a revoke; then to a file and back.
+//! people, two folders, a grant, a revoke; then to a file and back; and
+//! somebody leaves.
 //!
 //!     rustc --edition 2021 -L PREFIX/lib keep.rs && ./keep book.tkb
 //!
@@ -41,12 +42,14 @@ calls! {
     fn fenstubble_insert(; head, tables; orders: *mut u16, orders_len: usize, count: *mut u16, list: *const u8, list_len: usize);
     fn fenstubble_grant(; head, tables; orders: *mut u16, orders_len: usize, count: *mut u16, resource: u16, user: u16);
     fn fenstubble_revoke(; head, tables; orders: *mut u16, orders_len: usize, count: *mut u16, resource: u16, user: u16);
+    fn fenstubble_leave(; head, tables; orders: *mut u16, orders_len: usize, count: *mut u16, user: u16);
     fn fenstubble_open(; head, tables; user: u16, resource: u16, list: *mut u16, list_len: usize, inner: *mut u16, outer: *mut u16);
 }
 
 // The header's numbers, without their FENSTUBBLE_.
-const VERSION: u32 = 30000;
-const HEAD_LEN: usize = 7;
+const VERSION: u32 = 40000;
+const HEAD_LEN: usize = 11;
+const HEAD_LEAVERS: usize = 7;
 const INNER_VERTICES_BYTES: usize = 320 * 8;
 const INNER_TOKENS_BYTES: usize = 4096 * 5;
 const OUTER_VERTICES_BYTES: usize = 512 * 8;
@@ -54,8 +57,9 @@ const OUTER_TOKENS_BYTES: usize = 4096 * 4;
 const RESOURCES_BYTES: usize = 256 * 12;
 const SET_BYTES: usize = 8;
 const BOOK_HEADER: usize = 17;
-const BOOK_BYTES: usize = 46_609;
-const ORDER_ROWS: usize = 385;
+const BOOK_ROWS: usize = 25;
+const BOOK_BYTES: usize = 46_617;
+const ORDER_ROWS: usize = 4608;
 const OPEN_ROWS: usize = 126;
 const MODE_DELTA: u16 = 1;
 const NO_OUTER: u16 = 65535;
@@ -63,6 +67,7 @@ const NO_ROW: usize = 65535;
 const NO_SUCH: u16 = 1;
 const NOT_LISTED: u16 = 6;
 const CLOSED: u16 = 11;
+const HAS_LEFT: u16 = 15;
 const BROKEN_S1: u16 = 31;
 const BROKEN_S7: u16 = 37;
 
@@ -70,11 +75,11 @@ const BROKEN_S7: u16 = 37;
 #[rustfmt::skip]
 const REASONS: [(u16, &str); 13] = [
     (20, "the bytes do not begin with the mark of a book, TKB"),
-    (21, "the book's version is not 1"),
+    (21, "the book's version is neither 1 nor 2"),
     (22, "the book's mode is neither 0 nor 1"),
     (23, "a count in the book's header is over its limit"),
-    (24, "the length is not that of the book's header and rows"),
-    (31, "S1 is broken: the row has a kind above 1, a vertex that is not there, or a user who has not joined"),
+    (24, "the length is not what the book's version and counts ask for"),
+    (31, "S1 is broken: a kind above 1, a vertex that is not there, a set with a user who has not joined, or a list with one who has left"),
     (32, "S2 is broken: a user has no own vertex, a token that is not of kind 1 leads to one, or an inner vertex has the empty set"),
     (33, "S3 is broken: an earlier vertex of the layer has the same set"),
     (34, "S4 is broken: the set where the token starts is empty, or no proper part of the set that it leads to"),
@@ -142,9 +147,14 @@ fn broken(bytes: &[u8], number: u16, place: usize) -> String {
     format!("{number} at {place}{row}: {reason}")
 }
 
-/// The row at a place of a book's bytes, by the counts in their header.
+/// The row at a place of a book's bytes, by the version and the counts in
+/// their header; in version 2 the set of leavers stands before all rows.
 fn row_at(bytes: &[u8], place: usize) -> String {
-    let mut start = BOOK_HEADER;
+    let mut start = if bytes[3] == 1 {
+        BOOK_HEADER
+    } else {
+        BOOK_ROWS
+    };
     for (name, count, width) in SECTIONS {
         let rows = usize::from(u16::from_le_bytes([bytes[count], bytes[count + 1]]));
         let end = start + rows * width;
@@ -153,7 +163,7 @@ fn row_at(bytes: &[u8], place: usize) -> String {
         }
         start = end;
     }
-    String::new()
+    ", the set of leavers".into()
 }
 
 /// The rows of an accepted request, to be obeyed in their order. A host with
@@ -181,8 +191,10 @@ impl Book {
     /// The empty book. What stands in tables that are not in use is never
     /// looked at.
     fn empty_delta(unused: u8) -> Book {
+        let mut head = [0; HEAD_LEN];
+        head[0] = MODE_DELTA;
         Book {
-            head: [MODE_DELTA, 0, 0, 0, 0, 0, 0],
+            head,
             inner_vertices: [unused; INNER_VERTICES_BYTES],
             inner_tokens: [unused; INNER_TOKENS_BYTES],
             outer_vertices: [unused; OUTER_VERTICES_BYTES],
@@ -218,6 +230,15 @@ impl Book {
         ordered(
             |rows, len, count| call!(fenstubble_revoke(; self; rows, len, count, resource, user)),
         )
+    }
+
+    fn leave(&mut self, user: u16) -> Result<Orders, No> {
+        ordered(|rows, len, count| call!(fenstubble_leave(; self; rows, len, count, user)))
+    }
+
+    /// The set of leavers is four numbers of the head, 16 people in each.
+    fn has_left(&self, user: usize) -> bool {
+        self.head[HEAD_LEAVERS + user / 16] >> (user % 16) & 1 == 1
     }
 
     /// The token rows of the inner chain, then those of the outer.
@@ -357,6 +378,15 @@ fn keep(file: &Path) -> Result<(), String> {
     println!("grant folder 0 to person 1 again");
     accepted(again.grant(0, 1))?;
     open(&mut again, 1, 0, None)?;
+
+    // Who leaves is taken off every list at once, and is on none again.
+    println!("person 1 leaves");
+    accepted(again.leave(1))?;
+    let left = again.has_left(1) && !again.has_left(0);
+    expect(left, "one who has left, and one who has not")?;
+    open(&mut again, 1, 1, Some(1))?;
+    println!("grant folder 0 to person 1 once more");
+    refused(again.grant(0, 1), HAS_LEFT)?;
 
     // Nothing that is not a sound book is taken for one.
     back[bytes.len() - 4] ^= 1;

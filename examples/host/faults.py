@@ -112,6 +112,24 @@ class TrustingHost(Host):
         self.finish()
 
 
+class PartialHost(Host):
+    def request(self, word: str, ask: Callable[[Book], Answer], text: Optional[bytes] = None) -> int:
+        def cut(book: Book) -> Answer:
+            number, orders = ask(book)
+            locks = [n for n, order in enumerate(orders) if order.kind == Kind.LOCK]
+            return Answer(number, orders[: locks[0] + 1] if word == "leave" and locks else orders)
+
+        return super().request(word, cut, text)
+
+
+class PiecemealHost(Host):
+    def leave(self, user: int) -> None:
+        for folder, users in enumerate(self.book.lists):
+            if user in users:
+                self.revoke(folder, user)
+        super().leave(user)
+
+
 class UntidyHost(Host):
     def recover(self) -> None:
         if self.pending is not None:
@@ -154,6 +172,8 @@ FAULTS = {
     "anew": Fault("a key is made anew when its order is obeyed again", host=AnewKeysHost),
     "bare": Fault("encrypting obeyed again takes the outer lock off", host=BareHost),
     "gap": Fault("a folder's old outer lock comes off before its new one goes on", host=GapHost),
+    "partial": Fault("a leaver's first folder is locked, and no other", host=PartialHost),
+    "piecemeal": Fault("a leave is made as one revoke after another, each kept by itself", host=PiecemealHost),
     "forgetful": Fault("a host that starts does not obey what is pending", host=ForgetfulHost),
     "trusting": Fault("a host that starts does not sync what it finds", host=TrustingHost),
     "untidy": Fault("a host that starts leaves files that are half written, and staged texts", host=UntidyHost),

@@ -360,7 +360,7 @@ class Person:
 
 
 class Pending(NamedTuple):
-    """A request whose orders are not all known to be obeyed: its word, the new user or folder (or the folder it is about), the orders."""
+    """A request whose orders are not all known to be obeyed: its word, the new user or folder (or the folder it is about, or who leaves), the orders."""
 
     word: str
     number: int
@@ -427,6 +427,10 @@ class Host:
 
     def revoke(self, folder: int, user: int) -> None:
         self.request("revoke", lambda book: book.revoke(folder, user))
+
+    def leave(self, user: int) -> None:
+        """One request, however many folders it locks: it is kept, obeyed and gone on with like any other. The leaver's two keys are not taken back; they open nothing."""
+        self.request("leave", lambda book: book.leave(user))
 
     def chain(self, user: int, folder: int) -> Chain:
         """What the engine's `open` says, by the names of the tokens."""

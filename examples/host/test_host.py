@@ -351,6 +351,89 @@ class Neighbours(Case):
             self.assertEqual(self.everybody(), [{0, 1, 2, 3}, {0, 1, 3}, {1, 2, 3}])
 
 
+class Leavers(Case):
+    """Person 1, who reads both folders, leaves. Person 2 has the inner key of both, and may read the second."""
+
+    def test_leaves(self) -> None:
+        handed = {path: data for path, data in self.content().items() if "people" in path}
+        with Host(self.root) as host:
+            host.leave(1)
+            self.assertEqual((host.book.lists, host.book.leavers, host.pending), ([{0}, {0, 2}], {1}, None))
+            self.assertEqual([self.refusal(host.read, 1, folder) for folder in range(2)], [11, 11])
+        self.assertEqual(self.everybody(), [{0, 1}, set(), {1}])
+        self.assertEqual({path: data for path, data in self.content().items() if "people" in path}, handed, "the keys stay with the leaver")
+
+    def test_for_good(self) -> None:
+        """Nothing brings the leaver back: all is refused without a file touched, and who joins is somebody else."""
+        with Host(self.root) as host:
+            host.leave(1)
+            before = self.content()
+            self.assertEqual([self.refusal(*asked) for asked in ((host.leave, 1), (host.grant, 0, 1), (host.insert, {0, 1}, b"x"), (host.revoke, 0, 1))], [15, 15, 15, 6])
+            self.assertEqual(self.content(), before)
+            new = host.join()
+            host.grant(0, new)
+            host.insert({0, new}, b"more")
+            self.assertEqual((new, host.read(new, 0)), (3, TEXTS[0]))
+        self.assertEqual(set(brute.open_all(self.root, 1)), set())
+
+    def test_on_no_list(self) -> None:
+        with Host(self.root) as host:
+            new = host.join()
+            public = self.public()
+            host.leave(new)
+        self.assertEqual(self.public(), public)
+        with Host(self.root) as host:
+            self.assertEqual(host.book.leavers, {new})
+
+    def test_folder_lost(self) -> None:
+        """A leave that can't lock one of its folders is not forgotten: it goes on when the folder is brought back, as it was, and then locks it."""
+        there = self.file(1).read_bytes()
+        self.file(1).unlink()
+        with Host(self.root) as host:
+            self.assertRaises(Damaged, host.leave, 1)
+        self.assertRaises(Damaged, Host, self.root)
+        self.file(1).write_bytes(there)
+        self.assertEqual(self.everybody(), [{0, 1}, {1}, {1}])
+        with Host(self.root):
+            self.assertEqual(self.everybody(), [{0, 1}, set(), {1}])
+
+    def test_dropped(self) -> None:
+        """The line drops behind the first lock: one folder is closed to the leaver already, and the next host closes the other."""
+        DroppingHost.after = Kind.LOCK
+        with DroppingHost(self.root) as host:
+            self.assertRaises(Dropped, host.leave, 1)
+        self.assertEqual(self.everybody(), [{0, 1}, {1}, {1}])
+        with Host(self.root) as host:
+            self.assertEqual((host.pending, host.book.leavers), (None, {1}))
+        self.assertEqual(self.everybody(), [{0, 1}, set(), {1}])
+
+    def test_first_version(self) -> None:
+        """A world whose book an earlier release wrote: nobody has left there, and from the next request on its bytes are of version 2."""
+        file = self.root / "owner" / "book"
+        said = json.loads(file.read_bytes())
+        now = bytes.fromhex(said["book"])
+        old = now[:3] + b"\1" + now[4:17] + now[25:]
+        file.write_bytes(json.dumps({**said, "book": old.hex()}).encode())
+        with Host(self.root) as host:
+            self.assertEqual((host.book.to_bytes(), host.book.leavers), (now, set()))
+            self.assertEqual(host.read(1, 0), TEXTS[0])
+            host.leave(1)
+        self.assertEqual(bytes.fromhex(json.loads(file.read_bytes())["book"])[3], 2)
+        self.assertEqual(self.everybody(), [{0, 1}, set(), {1}])
+
+    def public(self) -> dict[str, bytes]:
+        return {path: data for path, data in self.content().items() if "public" in path}
+
+    def refusal(self, ask: Callable[..., object], *arguments: object) -> int:
+        with self.assertRaises(Refused) as caught:
+            ask(*arguments)
+        return caught.exception.number
+
+
+class FullLeavers(Leavers):
+    mode = Mode.FULL
+
+
 class Arrivals(Case):
     """A lock that is asked for before its folder is there. Folder 2 is to have the inner key of the first two, which person 2 has by a token."""
 

@@ -20,18 +20,22 @@ _Static_assert(FENSTUBBLE_RESOURCES_WIDTH == 12 && FENSTUBBLE_SET_BYTES == 8, "w
 _Static_assert(FENSTUBBLE_INNER_VERTICES_BYTES == 2560 && FENSTUBBLE_OUTER_VERTICES_BYTES == 4096, "bytes of vertices");
 _Static_assert(FENSTUBBLE_INNER_TOKENS_BYTES == 20480 && FENSTUBBLE_OUTER_TOKENS_BYTES == 16384, "bytes of tokens");
 _Static_assert(FENSTUBBLE_RESOURCES_BYTES == 3072, "bytes of resources");
-_Static_assert(FENSTUBBLE_BOOK_HEADER == 17 && FENSTUBBLE_BOOK_BYTES == 46609, "bytes of a book");
-_Static_assert(FENSTUBBLE_BOOK_BYTES == FENSTUBBLE_BOOK_HEADER + FENSTUBBLE_INNER_VERTICES_BYTES + FENSTUBBLE_INNER_TOKENS_BYTES +
+_Static_assert(FENSTUBBLE_BOOK_HEADER == 17 && FENSTUBBLE_BOOK_BYTES == 46617, "bytes of a book");
+_Static_assert(FENSTUBBLE_BOOK_LEAVERS == 17 && FENSTUBBLE_BOOK_ROWS == 25, "the set of leavers, and the rows behind it");
+_Static_assert(FENSTUBBLE_BOOK_BYTES == FENSTUBBLE_BOOK_ROWS + FENSTUBBLE_INNER_VERTICES_BYTES + FENSTUBBLE_INNER_TOKENS_BYTES +
                                             FENSTUBBLE_OUTER_VERTICES_BYTES + FENSTUBBLE_OUTER_TOKENS_BYTES + FENSTUBBLE_RESOURCES_BYTES,
-               "the largest book is the header and all tables");
-_Static_assert(FENSTUBBLE_HEAD_LEN == 7 && FENSTUBBLE_HEAD_MODE == 0 && FENSTUBBLE_HEAD_USERS == 1 && FENSTUBBLE_HEAD_RESOURCES == 2, "the head");
+               "the largest book is the header, the set of leavers and all tables");
+_Static_assert(FENSTUBBLE_HEAD_LEN == 11 && FENSTUBBLE_HEAD_LEAVERS == 7 && FENSTUBBLE_HEAD_MODE == 0, "the head");
+_Static_assert(FENSTUBBLE_HEAD_USERS == 1 && FENSTUBBLE_HEAD_RESOURCES == 2, "the head's users and folders");
 _Static_assert(FENSTUBBLE_HEAD_INNER_VERTICES == 3 && FENSTUBBLE_HEAD_INNER_TOKENS == 4, "the head's inner layer");
 _Static_assert(FENSTUBBLE_HEAD_OUTER_VERTICES == 5 && FENSTUBBLE_HEAD_OUTER_TOKENS == 6, "the head's outer layer");
 _Static_assert(FENSTUBBLE_SECTION_INNER_VERTICES == 0 && FENSTUBBLE_SECTION_INNER_TOKENS == 1, "the inner sections");
 _Static_assert(FENSTUBBLE_SECTION_OUTER_VERTICES == 2 && FENSTUBBLE_SECTION_OUTER_TOKENS == 3, "the outer sections");
 _Static_assert(FENSTUBBLE_SECTION_RESOURCES == 4 && FENSTUBBLE_SECTIONS == 5, "the last section");
 _Static_assert(FENSTUBBLE_ORDER_WIDTH == 3 && FENSTUBBLE_REQUEST_WIDTH == 3 && FENSTUBBLE_ANSWER_WIDTH == 3, "rows of three");
-_Static_assert(FENSTUBBLE_ORDER_ROWS == 385 && FENSTUBBLE_ORDERS_LEN == 1155 && FENSTUBBLE_CHAIN_ROWS == 63 && FENSTUBBLE_OPEN_ROWS == 126, "most rows");
+_Static_assert(FENSTUBBLE_ORDER_ROWS == 4608 && FENSTUBBLE_ORDERS_LEN == 13824 && FENSTUBBLE_GRANT_ROWS == 385, "most rows of a request");
+_Static_assert(FENSTUBBLE_ORDER_ROWS == FENSTUBBLE_OUTER_TOKENS + 2 * FENSTUBBLE_RESOURCES, "a leave: all tokens, a vertex and a lock for each folder");
+_Static_assert(FENSTUBBLE_CHAIN_ROWS == 63 && FENSTUBBLE_OPEN_ROWS == 126, "most rows of an open");
 _Static_assert(FENSTUBBLE_NO_OUTER == 65535 && FENSTUBBLE_NO_ROW == 65535 && FENSTUBBLE_ROW_INNER == 'i' && FENSTUBBLE_ROW_OUTER == 'o', "marks");
 
 /* ---- a book to lend */
@@ -91,7 +95,7 @@ static void versions(void) {
 }
 
 static int is_told(unsigned number) {
-    return number <= FENSTUBBLE_MALFORMED || (number >= FENSTUBBLE_WRONG_MARK && number <= FENSTUBBLE_WRONG_LENGTH) ||
+    return number <= FENSTUBBLE_HAS_LEFT || (number >= FENSTUBBLE_WRONG_MARK && number <= FENSTUBBLE_WRONG_LENGTH) ||
            (number >= FENSTUBBLE_BROKEN_S1 && number <= FENSTUBBLE_BROKEN_S8);
 }
 
@@ -127,6 +131,7 @@ static void lengths(void) {
         book.length[t] = length;
     }
     expect(fenstubble_check(book.head, FENSTUBBLE_HEAD_LEN - 1, TABLES) == FENSTUBBLE_SHORT_TABLE);
+    expect(fenstubble_leave(book.head, FENSTUBBLE_HEAD_LEN - 1, TABLES, ORDERS, 0) == FENSTUBBLE_SHORT_TABLE);
     expect(fenstubble_check(NULL, 0, TABLES) == FENSTUBBLE_SHORT_TABLE);
     expect(fenstubble_join(NULL, 0, TABLES, ORDERS) == FENSTUBBLE_SHORT_TABLE);
     expect(fenstubble_insert(BOOK, ORDERS, set, FENSTUBBLE_SET_BYTES - 1) == FENSTUBBLE_SHORT_TABLE);
@@ -145,6 +150,7 @@ static void nulls(void) {
     expect(fenstubble_join(BOOK, orders, 2 * FENSTUBBLE_ORDER_WIDTH - 1, &count) == FENSTUBBLE_SHORT_ANSWER);
     expect(fenstubble_grant(BOOK, NULL, 0, &count, 0, 2) == FENSTUBBLE_SHORT_ANSWER);
     expect(fenstubble_revoke(BOOK, NULL, 0, &count, 0, 1) == FENSTUBBLE_SHORT_ANSWER);
+    expect(fenstubble_leave(BOOK, NULL, 0, &count, 1) == FENSTUBBLE_SHORT_ANSWER);
     expect(fenstubble_open(BOOK, 1, 0, NULL, 0, &inner, &outer) == FENSTUBBLE_SHORT_ANSWER);
     expect(fenstubble_write(BOOK, NULL, 0, &length) == FENSTUBBLE_SHORT_ANSWER);
     expect(fenstubble_section(NULL, 0, 0, &start, &length, &place) == FENSTUBBLE_WRONG_LENGTH && place == 0);
@@ -194,6 +200,51 @@ static void numbers(void) {
     expect(fenstubble_revoke(BOOK, ORDERS, 0, 1) == FENSTUBBLE_DONE);
     expect(fenstubble_view(BOOK, 1, 0, &view) == FENSTUBBLE_DONE && view == FENSTUBBLE_VIEW_OUTER_LOCKED);
     expect(fenstubble_view(BOOK, 0, 0, &view) == FENSTUBBLE_DONE && view == FENSTUBBLE_VIEW_OPEN);
+}
+
+/* What a leave does to lists, locks and head, and what is refused afterwards. */
+static void leaves(void) {
+    static const uint8_t own[FENSTUBBLE_SET_BYTES] = {2}, gone[FENSTUBBLE_SET_BYTES] = {3}, strange[FENSTUBBLE_SET_BYTES] = {10};
+    static const uint16_t orders_of[] = {FENSTUBBLE_ORDER_LOCK, 0, 0, FENSTUBBLE_ORDER_OUTER_KEY, 3, 0, FENSTUBBLE_ORDER_LOCK, 1, 3};
+    uint16_t longer[FENSTUBBLE_HEAD_LEN + 1];
+    /* folder 1 is for user 1 alone: nobody remains there */
+    story(FENSTUBBLE_MODE_DELTA);
+    expect(fenstubble_insert(BOOK, ORDERS, own, sizeof own) == FENSTUBBLE_DONE);
+    before = book;
+    count = 9;
+    expect(fenstubble_leave(BOOK, orders, 3 * FENSTUBBLE_ORDER_WIDTH - 1, &count, 1) == FENSTUBBLE_SHORT_ANSWER);
+    expect(fenstubble_leave(BOOK, ORDERS, 3) == FENSTUBBLE_NO_SUCH && memcmp(&before, &book, sizeof book) == 0 && count == 9);
+    expect(fenstubble_leave(BOOK, orders, 3 * FENSTUBBLE_ORDER_WIDTH, &count, 1) == FENSTUBBLE_DONE && count == 3);
+    expect(memcmp(orders, orders_of, sizeof orders_of) == 0 && book.table[4][0] == 1 && book.table[4][12] == 0);
+    /* the head: no user less, and one leaver */
+    expect(book.head[FENSTUBBLE_HEAD_USERS] == 3 && book.head[FENSTUBBLE_HEAD_LEAVERS] == 2);
+    for (unsigned user = 0; user <= 65535; user++)
+        expect(fenstubble_has_left(book.head, (uint16_t)user) == (user == 1));
+    before = book;
+    count = 9;
+    expect(fenstubble_leave(BOOK, ORDERS, 1) == FENSTUBBLE_HAS_LEFT && fenstubble_grant(BOOK, ORDERS, 0, 1) == FENSTUBBLE_HAS_LEFT);
+    expect(fenstubble_insert(BOOK, ORDERS, gone, sizeof gone) == FENSTUBBLE_HAS_LEFT);
+    expect(fenstubble_insert(BOOK, ORDERS, strange, sizeof strange) == FENSTUBBLE_NO_SUCH);
+    expect(fenstubble_revoke(BOOK, ORDERS, 0, 1) == FENSTUBBLE_NOT_LISTED && memcmp(&before, &book, sizeof book) == 0 && count == 9);
+    /* one who is on no list: no orders, and a list of length 0 is enough */
+    expect(fenstubble_leave(BOOK, NULL, 0, &count, 2) == FENSTUBBLE_DONE && count == 0 && book.head[FENSTUBBLE_HEAD_LEAVERS] == 6);
+    expect(fenstubble_join(BOOK, ORDERS) == FENSTUBBLE_DONE && book.head[FENSTUBBLE_HEAD_USERS] == 4);
+    /* a number behind the eleventh is neither looked at nor changed */
+    memcpy(longer, book.head, sizeof book.head);
+    longer[FENSTUBBLE_HEAD_LEN] = 0xA5A5;
+    expect(fenstubble_leave(longer, FENSTUBBLE_HEAD_LEN + 1, TABLES, ORDERS, 0) == FENSTUBBLE_DONE && longer[FENSTUBBLE_HEAD_LEN] == 0xA5A5);
+    expect(longer[FENSTUBBLE_HEAD_LEAVERS] == 7);
+    /* leavers who have not joined, in each of the four numbers; one whom a list names */
+    story(FENSTUBBLE_MODE_DELTA);
+    for (int k = 0; k < 4; k++) {
+        book.head[FENSTUBBLE_HEAD_LEAVERS + k] = 8;
+        expect(fenstubble_has_left(book.head, (uint16_t)(16 * k + 3)) && fenstubble_check(BOOK) == FENSTUBBLE_UNSOUND);
+        book.head[FENSTUBBLE_HEAD_LEAVERS + k] = 0;
+    }
+    book.head[FENSTUBBLE_HEAD_LEAVERS] = 2;
+    expect(fenstubble_check(BOOK) == FENSTUBBLE_UNSOUND);
+    book.head[FENSTUBBLE_HEAD_LEAVERS] = 4;
+    expect(fenstubble_check(BOOK) == FENSTUBBLE_DONE);
 }
 
 /* ---- every refusal of a request, and the limit that it stands for */
@@ -271,13 +322,14 @@ static void layout(void) {
     static const size_t widths[] = {FENSTUBBLE_INNER_VERTICES_WIDTH, FENSTUBBLE_INNER_TOKENS_WIDTH, FENSTUBBLE_OUTER_VERTICES_WIDTH,
                                     FENSTUBBLE_OUTER_TOKENS_WIDTH, FENSTUBBLE_RESOURCES_WIDTH};
     static const size_t counts[] = {9, 11, 13, 15, 7};
-    size_t length, start, size, place, next = FENSTUBBLE_BOOK_HEADER;
+    size_t length, start, size, place, next = FENSTUBBLE_BOOK_ROWS;
     story(FENSTUBBLE_MODE_DELTA);
-    expect(fenstubble_revoke(BOOK, ORDERS, 0, 0) == FENSTUBBLE_DONE);
+    expect(fenstubble_revoke(BOOK, ORDERS, 0, 0) == FENSTUBBLE_DONE && fenstubble_leave(BOOK, ORDERS, 2) == FENSTUBBLE_DONE);
     expect(fenstubble_write(BOOK, bytes, sizeof bytes, &length) == FENSTUBBLE_DONE);
-    expect(memcmp(bytes, "TKB\1\0\1\3", 7) == 0 && at(bytes, 7) == book.head[FENSTUBBLE_HEAD_RESOURCES]);
-    for (int place = FENSTUBBLE_HEAD_INNER_VERTICES; place <= FENSTUBBLE_HEAD_OUTER_TOKENS; place++)
+    expect(memcmp(bytes, "TKB\2\0\1\3", 7) == 0 && at(bytes, 7) == book.head[FENSTUBBLE_HEAD_RESOURCES]);
+    for (int place = FENSTUBBLE_HEAD_INNER_VERTICES; place < FENSTUBBLE_HEAD_LEN; place++)
         expect(at(bytes, 3 + 2 * (size_t)place) == book.head[place]);
+    expect(bytes[FENSTUBBLE_BOOK_LEAVERS] == 1 << 2);
     for (size_t k = 0; k < 5; k++) {
         place = 9;
         expect(fenstubble_section(bytes, length, k, &start, &size, &place) == FENSTUBBLE_DONE && start == next && place == 0);
@@ -295,10 +347,19 @@ static void layout(void) {
 
 /* ---- bytes that are no sound book */
 
-/* Two users, and a folder for both: the rows start at 17, 25, 33; 41, 46; 51, 59; 67. */
-static const uint8_t pair[] = {84, 75, 66, 1, 0, 1, 2, 1, 0, 3, 0, 2, 0, 2, 0, 0, 0, 1, 0, 0, 0, 0, 0, 0, 0, 2, 0,
-                               0,  0,  0,  0, 0, 0, 3, 0, 0, 0, 0, 0, 0, 0, 0, 0, 2, 0, 0, 1, 0, 2, 0, 0, 1, 0, 0,
-                               0,  0,  0,  0, 0, 2, 0, 0, 0, 0, 0, 0, 0, 3, 0, 0, 0, 0, 0, 0, 0, 2, 0, 255, 255};
+/* Two users, and a folder for both: the set of leavers stands at 17, the rows start at 25, 33, 41; 49, 54; 59, 67; 75. */
+static const uint8_t pair[] = {84, 75, 66, 2, 0, 1, 2, 1, 0, 3, 0, 2, 0, 2, 0, 0, 0, 0, 0, 0, 0, 0, 0, 0, 0, 1, 0, 0, 0,
+                               0,  0,  0,  0, 2, 0, 0, 0, 0, 0, 0, 0, 3, 0, 0, 0, 0, 0, 0, 0, 0, 0, 2, 0, 0, 1, 0, 2, 0,
+                               0,  1,  0,  0, 0, 0, 0, 0, 0, 2, 0, 0, 0, 0, 0, 0, 0, 3, 0, 0, 0, 0, 0, 0, 0, 2, 0, 255, 255};
+
+/* The same book in version 1, which has no set of leavers: each row starts 8 bytes earlier. */
+static uint8_t old_pair[sizeof pair - FENSTUBBLE_SET_BYTES];
+
+static void make_old_pair(void) {
+    memcpy(old_pair, pair, FENSTUBBLE_BOOK_HEADER);
+    memcpy(old_pair + FENSTUBBLE_BOOK_HEADER, pair + FENSTUBBLE_BOOK_ROWS, sizeof pair - FENSTUBBLE_BOOK_ROWS);
+    old_pair[3] = 1;
+}
 
 /* The bytes are refused so by read and by every section; nothing but the place is written. */
 static void broken_at(const uint8_t *bytes, size_t length, uint16_t number, size_t place, int line) {
@@ -313,18 +374,25 @@ static void broken_at(const uint8_t *bytes, size_t length, uint16_t number, size
 }
 #define broken(bytes, length, number, place) broken_at(bytes, length, number, place, __LINE__)
 
-/* The book `pair` with one byte, or two, changed. */
+/* The book `pair` with one byte, or two, changed. What stands in its rows is tried in version 1 too. */
 static void changed_at(size_t at, uint8_t byte, size_t other_at, uint8_t other, uint16_t number, size_t place, int line) {
-    uint8_t bytes[sizeof pair];
+    static const size_t less = FENSTUBBLE_SET_BYTES;
+    uint8_t bytes[sizeof pair], old[sizeof old_pair];
     memcpy(bytes, pair, sizeof pair);
     bytes[at] = byte;
     bytes[other_at] = other;
     broken_at(bytes, sizeof bytes, number, place, line);
+    if (at < FENSTUBBLE_BOOK_ROWS || other_at < FENSTUBBLE_BOOK_ROWS)
+        return;
+    memcpy(old, old_pair, sizeof old_pair);
+    old[at - less] = byte;
+    old[other_at - less] = other;
+    broken_at(old, sizeof old, number, place == FENSTUBBLE_NO_ROW ? place : place - less, line);
 }
 #define changed(at, byte, other_at, other, number, place) changed_at(at, byte, other_at, other, number, place, __LINE__)
 
 static void places(void) {
-    static uint8_t large[70000] = {84, 75, 66, 1, 0, 1};
+    static uint8_t large[70000] = {84, 75, 66, 2, 0, 1};
     size_t place = 9;
     story(FENSTUBBLE_MODE_DELTA);
     expect(fenstubble_read(pair, sizeof pair, BOOK, &place) == FENSTUBBLE_DONE && place == 0);
@@ -335,30 +403,58 @@ static void places(void) {
 
     for (size_t length = 0; length < sizeof pair; length++)
         broken(pair, length, FENSTUBBLE_WRONG_LENGTH, length);
-    broken(large, 65535, FENSTUBBLE_WRONG_LENGTH, 65535);
-    broken(large, sizeof large, FENSTUBBLE_WRONG_LENGTH, sizeof large);
+    for (size_t length = 0; length < sizeof old_pair; length++)
+        broken(old_pair, length, FENSTUBBLE_WRONG_LENGTH, length);
+    for (large[3] = 1; large[3] <= 2; large[3]++) {
+        broken(large, 65535, FENSTUBBLE_WRONG_LENGTH, 65535);
+        broken(large, sizeof large, FENSTUBBLE_WRONG_LENGTH, sizeof large);
+    }
 
     changed(0, 85, 5, 2, FENSTUBBLE_WRONG_MARK, 0);
+    changed(3, 3, 5, 2, FENSTUBBLE_WRONG_VERSION, 3);
     changed(4, 1, 5, 2, FENSTUBBLE_WRONG_VERSION, 3);
     changed(5, 2, 6, 65, FENSTUBBLE_WRONG_MODE, 5);
     changed(6, 65, 16, 1, FENSTUBBLE_WRONG_COUNT, 6);
     changed(8, 1, 16, 1, FENSTUBBLE_WRONG_COUNT, 7);
     changed(7, 0, 16, 1, FENSTUBBLE_WRONG_COUNT, 9);
     changed(12, 16, 14, 2, FENSTUBBLE_WRONG_COUNT, 11);
-    changed(14, 2, 50, 2, FENSTUBBLE_WRONG_COUNT, 13);
+    changed(14, 2, 58, 2, FENSTUBBLE_WRONG_COUNT, 13);
     changed(15, 1, 16, 16, FENSTUBBLE_WRONG_COUNT, 15);
-    changed(16, 1, 50, 2, FENSTUBBLE_WRONG_LENGTH, sizeof pair);
+    changed(16, 1, 17, 4, FENSTUBBLE_WRONG_LENGTH, sizeof pair);
+    changed(3, 1, 17, 4, FENSTUBBLE_WRONG_LENGTH, sizeof pair);
 
-    changed(50, 2, 52, 1, FENSTUBBLE_BROKEN_S1, 46);
-    changed(52, 1, 52, 1, FENSTUBBLE_BROKEN_S1, 51);
-    changed(77, 0, 77, 0, FENSTUBBLE_BROKEN_S1, 67);
-    changed(33, 0, 51, 2, FENSTUBBLE_BROKEN_S2, FENSTUBBLE_NO_ROW);
-    changed(33, 0, 33, 0, FENSTUBBLE_BROKEN_S2, 33);
-    changed(43, 1, 43, 1, FENSTUBBLE_BROKEN_S2, 41);
-    changed(46, 2, 46, 2, FENSTUBBLE_BROKEN_S4, 46);
-    changed(50, 1, 50, 1, FENSTUBBLE_BROKEN_S5, 33);
-    changed(75, 0, 75, 0, FENSTUBBLE_BROKEN_S7, 67);
-    changed(77, 0, 78, 0, FENSTUBBLE_BROKEN_S8, 67);
+    changed(17, 4, 58, 2, FENSTUBBLE_BROKEN_S1, FENSTUBBLE_BOOK_LEAVERS);
+    changed(24, 128, 24, 128, FENSTUBBLE_BROKEN_S1, FENSTUBBLE_BOOK_LEAVERS);
+    changed(17, 2, 17, 2, FENSTUBBLE_BROKEN_S1, 75);
+    changed(17, 2, 58, 2, FENSTUBBLE_BROKEN_S1, 54);
+    changed(17, 2, 41, 0, FENSTUBBLE_BROKEN_S1, 75);
+    changed(58, 2, 60, 1, FENSTUBBLE_BROKEN_S1, 54);
+    changed(60, 1, 60, 1, FENSTUBBLE_BROKEN_S1, 59);
+    changed(85, 0, 85, 0, FENSTUBBLE_BROKEN_S1, 75);
+    changed(41, 0, 59, 2, FENSTUBBLE_BROKEN_S2, FENSTUBBLE_NO_ROW);
+    changed(41, 0, 41, 0, FENSTUBBLE_BROKEN_S2, 41);
+    changed(51, 1, 51, 1, FENSTUBBLE_BROKEN_S2, 49);
+    changed(54, 2, 54, 2, FENSTUBBLE_BROKEN_S4, 54);
+    changed(58, 1, 58, 1, FENSTUBBLE_BROKEN_S5, 41);
+    changed(83, 0, 83, 0, FENSTUBBLE_BROKEN_S7, 75);
+    changed(85, 0, 86, 0, FENSTUBBLE_BROKEN_S8, 75);
+}
+
+/* Version 1 is read, nobody has left there, and it is written as version 2. */
+static void versions_of_bytes(void) {
+    static uint8_t bytes[FENSTUBBLE_BOOK_BYTES];
+    size_t place = 9, start, size, length;
+    story(FENSTUBBLE_MODE_DELTA);
+    expect(fenstubble_leave(BOOK, ORDERS, 2) == FENSTUBBLE_DONE && book.head[FENSTUBBLE_HEAD_LEAVERS] == 4);
+    expect(fenstubble_section(old_pair, sizeof old_pair, 0, &start, &size, &place) == FENSTUBBLE_DONE && start == FENSTUBBLE_BOOK_HEADER && size == 24);
+    expect(fenstubble_read(old_pair, sizeof old_pair, BOOK, &place) == FENSTUBBLE_DONE && place == 0 && book.head[FENSTUBBLE_HEAD_LEAVERS] == 0);
+    expect(fenstubble_write(BOOK, bytes, sizeof pair - 1, &length) == FENSTUBBLE_SHORT_ANSWER);
+    expect(fenstubble_write(BOOK, bytes, sizeof pair, &length) == FENSTUBBLE_DONE && length == sizeof pair && memcmp(bytes, pair, length) == 0);
+    /* with leavers the same both ways */
+    expect(fenstubble_leave(BOOK, ORDERS, 1) == FENSTUBBLE_DONE && fenstubble_write(BOOK, bytes, sizeof bytes, &length) == FENSTUBBLE_DONE);
+    begin(FENSTUBBLE_MODE_FULL);
+    expect(bytes[FENSTUBBLE_BOOK_LEAVERS] == 2 && fenstubble_read(bytes, length, BOOK, &place) == FENSTUBBLE_DONE);
+    expect(book.head[FENSTUBBLE_HEAD_LEAVERS] == 2 && fenstubble_has_left(book.head, 1));
 }
 
 /* Those of S3 and S6 take more rows: users 0 to 2, group 3 of users 0 and 1, group 4 of users 0 and 2; folder 0 is granted to user 2. */
@@ -369,25 +465,30 @@ static void more_places(void) {
     story(FENSTUBBLE_MODE_DELTA);
     expect(fenstubble_insert(BOOK, ORDERS, set, sizeof set) == FENSTUBBLE_DONE && fenstubble_grant(BOOK, ORDERS, 0, 2) == FENSTUBBLE_DONE);
     expect(fenstubble_write(BOOK, bytes, sizeof bytes, &length) == FENSTUBBLE_DONE);
-    bytes[17 + 4 * 8] = 3;
-    broken(bytes, length, FENSTUBBLE_BROKEN_S3, 17 + 4 * 8);
-    bytes[17 + 4 * 8] = 5;
-    bytes[17 + 5 * 8 + 4 * 5] = 0;
-    broken(bytes, length, FENSTUBBLE_BROKEN_S6, 17 + 5 * 8 + 4 * 5);
+    bytes[25 + 4 * 8] = 3;
+    broken(bytes, length, FENSTUBBLE_BROKEN_S3, 25 + 4 * 8);
+    bytes[25 + 4 * 8] = 5;
+    bytes[25 + 5 * 8 + 4 * 5] = 0;
+    broken(bytes, length, FENSTUBBLE_BROKEN_S6, 25 + 5 * 8 + 4 * 5);
 }
 
-/* Each byte of a book is one of its row; the header, and what is behind the rows, of none. */
-static void rows(void) {
-    static const size_t starts[] = {17, 41, 51, 67, 67, 79}, widths[] = {8, 5, 8, 4, 12};
+/* Each byte of a book is one of its row; the header, the set of leavers, and what is behind the rows, of none. */
+static void rows_of(const uint8_t *bytes, size_t length, size_t first) {
+    static const size_t starts[] = {0, 24, 34, 50, 50, 62}, widths[] = {8, 5, 8, 4, 12};
     for (size_t k = 0; k < FENSTUBBLE_SECTIONS; k++)
         for (size_t at = starts[k]; at < starts[k + 1]; at++) {
-            struct fenstubble_row row = fenstubble_row_at(pair, at);
+            struct fenstubble_row row = fenstubble_row_at(bytes, first + at);
             expect(row.section == k && row.number == (at - starts[k]) / widths[k]);
         }
-    for (size_t at = 0; at < 17; at++)
-        expect(fenstubble_row_at(pair, at).section == FENSTUBBLE_SECTIONS);
-    expect(fenstubble_row_at(pair, sizeof pair).section == FENSTUBBLE_SECTIONS);
-    expect(fenstubble_row_at(pair, FENSTUBBLE_NO_ROW).section == FENSTUBBLE_SECTIONS);
+    for (size_t at = 0; at < first; at++)
+        expect(fenstubble_row_at(bytes, at).section == FENSTUBBLE_SECTIONS);
+    expect(fenstubble_row_at(bytes, length).section == FENSTUBBLE_SECTIONS);
+    expect(fenstubble_row_at(bytes, FENSTUBBLE_NO_ROW).section == FENSTUBBLE_SECTIONS);
+}
+
+static void rows(void) {
+    rows_of(pair, sizeof pair, FENSTUBBLE_BOOK_ROWS);
+    rows_of(old_pair, sizeof old_pair, FENSTUBBLE_BOOK_HEADER);
 }
 
 /* The kinds of requests that are served together, and their answers. */
@@ -402,7 +503,10 @@ static void served(void) {
                                                                   {FENSTUBBLE_REQUEST_OPEN, 0, 0},
                                                                   {FENSTUBBLE_REQUEST_GRANT, 0, 1},
                                                                   {FENSTUBBLE_REQUEST_GRANT, 0, 65536},
-                                                                  {5, 0, 0}};
+                                                                  {FENSTUBBLE_REQUEST_LEAVE, 65536, 0},
+                                                                  {FENSTUBBLE_REQUEST_LEAVE, 1, 7},
+                                                                  {FENSTUBBLE_REQUEST_LEAVE, 1, 0},
+                                                                  {6, 0, 0}};
     static const uint16_t want[][FENSTUBBLE_ANSWER_WIDTH] = {{0, 0, 2},
                                                              {0, 0, 2},
                                                              {0, 0, 4},
@@ -413,13 +517,16 @@ static void served(void) {
                                                              {0, 0, 1},
                                                              {0, 0, 1},
                                                              {FENSTUBBLE_NO_SUCH, 0, 0},
+                                                             {FENSTUBBLE_NO_SUCH, 0, 0},
+                                                             {0, 0, 1},
+                                                             {FENSTUBBLE_HAS_LEFT, 0, 0},
                                                              {FENSTUBBLE_NO_SUCH, 0, 0}};
     enum { LEN = sizeof want / sizeof want[0][0] };
     uint16_t answers[LEN];
     size_t used = 9;
     begin(FENSTUBBLE_MODE_DELTA);
     expect(fenstubble_serve(BOOK, requests[0], LEN, answers, LEN - 1, orders, FENSTUBBLE_ORDERS_LEN, &used) == FENSTUBBLE_SHORT_ANSWER && used == 9);
-    expect(fenstubble_serve(BOOK, requests[0], LEN, answers, LEN, orders, FENSTUBBLE_ORDERS_LEN, &used) == FENSTUBBLE_DONE && used == 12);
+    expect(fenstubble_serve(BOOK, requests[0], LEN, answers, LEN, orders, FENSTUBBLE_ORDERS_LEN, &used) == FENSTUBBLE_DONE && used == 13);
     expect(memcmp(answers, want, sizeof want) == 0);
     expect(orders[8 * 3] == FENSTUBBLE_ROW_INNER && orders[8 * 3 + 1] == 1 && orders[8 * 3 + 2] == 0);
 
@@ -454,9 +561,9 @@ static size_t needed; /* by the call at hand */
 
 static void every_call(void) {
     static uint8_t bytes[FENSTUBBLE_BOOK_BYTES];
-    static const uint64_t requests[] = {FENSTUBBLE_REQUEST_OPEN, 1, 0, FENSTUBBLE_REQUEST_GRANT, 0, 2};
+    static const uint64_t requests[] = {FENSTUBBLE_REQUEST_OPEN, 1, 0, FENSTUBBLE_REQUEST_GRANT, 0, 2, FENSTUBBLE_REQUEST_LEAVE, 2, 0};
     static const uint8_t set[FENSTUBBLE_SET_BYTES] = {7};
-    static uint16_t rows[FENSTUBBLE_OPEN_ROWS], inner, outer, view, answers[6];
+    static uint16_t rows[FENSTUBBLE_OPEN_ROWS], inner, outer, view, answers[9];
     static size_t start, length, used, place;
     CALL(fenstubble_check(BOOK));
     CALL(fenstubble_write(BOOK, bytes, sizeof bytes, &length));
@@ -471,7 +578,8 @@ static void every_call(void) {
     CALL(fenstubble_revoke(BOOK, ORDERS, 0, 2));
     CALL(fenstubble_view(BOOK, 1, 0, &view));
     CALL(fenstubble_open(BOOK, 1, 0, rows, FENSTUBBLE_OPEN_ROWS, &inner, &outer));
-    CALL(fenstubble_serve(BOOK, requests, 6, answers, 6, orders, FENSTUBBLE_ORDERS_LEN, &used));
+    CALL(fenstubble_serve(BOOK, requests, 9, answers, 9, orders, FENSTUBBLE_ORDERS_LEN, &used));
+    CALL(fenstubble_leave(BOOK, ORDERS, 1));
 }
 
 static void stacks(void) {
@@ -485,17 +593,20 @@ static void stacks(void) {
 }
 
 int main(void) {
+    make_old_pair();
     versions();
     reasons();
     lengths();
     nulls();
     numbers();
+    leaves();
     requests_refused();
     groups_full();
     tokens_full();
     layout();
     places();
     more_places();
+    versions_of_bytes();
     rows();
     served();
     stacks();
