@@ -1,5 +1,7 @@
 // Applying a request that no refusal stops: the rows, and the orders in the order of RULES 6.2.
 // The five tables are iv, it, ov, ot, rs: inner vertices and tokens, outer vertices and tokens, resources.
+#![tactic(auto)]
+
 ghost use Rattle.std.specs.Prelude.{◌≡◌};
 ghost use Rattle.sets.specs.Words.{set_in};
 ghost use Rattle.rules.specs.Bytes.{tables, book_in};

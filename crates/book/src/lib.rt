@@ -1,4 +1,6 @@
 // The book as bytes: sections, reading and writing. The five tables are iv, it, ov, ot, rs: inner vertices and tokens, outer vertices and tokens, resources.
+#![tactic(auto)]
+
 ghost use Rattle.std.specs.Prelude.{◌≡◌, ◌||◌, ◌++◌, ◌+◌, ◌*◌, ◌≤◌, ◌<◌, eqb, length, take, get_or};
 ghost use Rattle.rows.specs.Number.{stored};
 ghost use Rattle.sets.specs.Words.{bytes, set_in};

@@ -1,5 +1,7 @@
 // The request program: request lines from standard input, their answers to standard output. Its memory is fixed.
 // The five tables are iv, it, ov, ot, rs: inner vertices and tokens, outer vertices and tokens, resources.
+#![tactic(auto)]
+
 mod block;
 mod hint;
 mod input;

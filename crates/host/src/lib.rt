@@ -1,6 +1,8 @@
 // The C interface (include/fenstubble.h): thin functions over numbers and slices. The result is 0 or the refusal's number, and a refusal leaves every
 // cell as it was, but for a place, which takes what is told with the refusal, and else 0.
 // The five tables are iv, it, ov, ot, rs: inner vertices and tokens, outer vertices and tokens, resources.
+#![tactic(auto)]
+
 pub mod requests;
 
 ghost use Rattle.std.specs.Prelude.{◌≡◌, ◌≤◌, length};

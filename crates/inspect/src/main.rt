@@ -2,6 +2,8 @@
 //
 // Proved: the text that is put into the output buffer, each byte of it, is the text that specs/Text.antt gives for the whole input, however long it is. Not
 // proved, since no contract can say it: that the system hands over the bytes of standard input in their order, and puts out those of the buffer.
+#![tactic(auto)]
+
 mod answer;
 mod input;
 mod memory;

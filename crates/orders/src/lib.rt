@@ -1,6 +1,8 @@
 // The requests that change the book, with the order list lent as records of three numbers each. The work is that of `policy::requests`, on an array of numbers; its rows are then
 // stored as records, one by one, by `store`.
 // The five tables are iv, it, ov, ot, rs: inner vertices and tokens, outer vertices and tokens, resources.
+#![tactic(auto)]
+
 ghost use Rattle.std.specs.Prelude.{◌≡◌, ◌<◌, ◌≤◌, ◌+◌, ◌*◌, length, set};
 ghost use Rattle.rules.specs.Bytes.{tables};
 ghost use Rattle.rules.specs.Calls.{changing, order_at, orders_in};

@@ -1,4 +1,6 @@
 // What is judged and planned before anything is written: the refusals of each request on the tables as they are, and what applying it needs to know.
+#![tactic(auto)]
+
 use rules::{Refusal, Resource};
 use sets::{User, Users};
 
