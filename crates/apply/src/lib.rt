@@ -29,7 +29,7 @@ pub mod leave;
 pub mod step;
 
 // The head after a request, and how many orders it gave.
-#[derive(Drop)]
+#[derive(Clone, Copy)]
 pub struct Applied {
     pub head: Head,
     pub count: u16,

@@ -21,7 +21,7 @@ use sound::every::{Judged, bad_count, first_rule};
 use sound::{Checked, check, long_enough};
 
 // What is wrong with bytes: RULES 9.10.
-#[derive(Drop)]
+#[derive(Clone, Copy)]
 pub enum Wrong {
     Nothing,
     First(Fault),

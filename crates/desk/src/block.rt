@@ -70,7 +70,7 @@ fn put_request(requests: &mut [u64], row: usize, q: Asked)
 }
 
 // How many request rows were filled, and what is left of the input.
-#[derive(Drop)]
+#[derive(Clone, Copy)]
 pub struct Block {
     pub rows: usize,
     pub unread: Unread,

@@ -10,7 +10,7 @@ use libc::STDERR_FILENO;
 
 // What the first line is instead of a mode: nothing came in, it is empty, begins with a byte order mark, ends in a carriage return, has a blank at an end,
 // has a capital; or anything else.
-#[derive(Drop)]
+#[derive(Clone, Copy)]
 pub enum Hint {
     Nothing,
     Empty,

@@ -16,7 +16,7 @@ pub const LONGEST: usize = 512;
 
 // The bytes from `from` to `to`. `cut`: the first of them belong to a line that is longer than a line may be, whose start was dropped.
 // `ended`: no more is to be read; `failed`: because a read failed.
-#[derive(Drop)]
+#[derive(Clone, Copy)]
 pub struct Unread {
     pub from: usize,
     pub to: usize,
@@ -188,7 +188,7 @@ pub fn read_first(input: &mut [u8]) -> Unread
 }
 
 // What the first line names, and what comes after it.
-#[derive(Drop)]
+#[derive(Clone, Copy)]
 pub struct Taken {
     pub first: First,
     pub unread: Unread,

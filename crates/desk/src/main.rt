@@ -47,7 +47,7 @@ fn empty_head(mode: Mode) -> Head
 
 // Between two turns: the book's head, the input not yet taken, how far the output buffer is filled, whether the program goes on, and whether a read or a
 // write failed.
-#[derive(Drop)]
+#[derive(Clone, Copy)]
 struct State {
     head: Head,
     unread: Unread,

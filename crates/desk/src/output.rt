@@ -13,7 +13,7 @@ use rules::Order;
 pub const OUTPUT: usize = 98304;
 
 // How far the buffer is filled; Failed where the output can't be written.
-#[derive(Drop)]
+#[derive(Clone, Copy)]
 pub enum Printed {
     To(usize),
     Failed,

@@ -6,7 +6,7 @@ use crate::memory;
 use libc::{STDERR_FILENO, STDIN_FILENO};
 
 // How many bytes are kept, and how many came. `ended`: no more is to be read; `failed`: because a read failed.
-#[derive(Drop)]
+#[derive(Clone, Copy)]
 pub struct Came {
     pub kept: usize,
     pub total: usize,
@@ -15,7 +15,7 @@ pub struct Came {
 }
 
 // What one read gives.
-#[derive(Drop)]
+#[derive(Clone, Copy)]
 enum Got {
     Bytes(usize),
     End,

@@ -20,7 +20,7 @@ use input::read_all;
 use output::write_out;
 
 // Where the answer's text ends in the output buffer; Failed where the input can't be read.
-#[derive(Drop)]
+#[derive(Clone, Copy)]
 enum Reply {
     To(usize),
     Failed,

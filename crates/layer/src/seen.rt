@@ -10,7 +10,7 @@ use crate::table::{Found, resource_in, set_of};
 use sets::{User, Users};
 
 // The vertices in the table, and how many new ones come behind them; the resources in theirs, and who leaves.
-#[derive(Drop)]
+#[derive(Clone, Copy)]
 pub struct Seen {
     pub vertices: usize,
     pub new: usize,

@@ -5,7 +5,7 @@ ghost use Rattle.lines.specs.Answer.{digits, numeral, of_open, row_text, rows_te
 use rules::Order;
 
 // Where the text ends, or that there is no room for it.
-#[derive(Drop)]
+#[derive(Clone, Copy)]
 pub enum Put {
     To(usize),
     Full,

@@ -8,34 +8,34 @@ use rules::Mode;
 use sets::{User, Users};
 
 // A request as the row of three numbers that a call which serves several requests takes.
-#[derive(Drop)]
+#[derive(Clone, Copy)]
 pub struct Asked {
     pub kind: u64,
     pub a: u64,
     pub b: u64,
 }
 
-#[derive(Drop)]
+#[derive(Clone, Copy)]
 pub enum Line {
     Asks(Asked),
     Malformed,
 }
 
 // The first line of the input.
-#[derive(Drop)]
+#[derive(Clone, Copy)]
 pub enum First {
     Of(Mode),
     Malformed,
 }
 
-#[derive(Drop)]
+#[derive(Clone, Copy)]
 pub enum Decimal {
     Is(u64),
     Bad,
 }
 
 // How many numbers were read.
-#[derive(Drop)]
+#[derive(Clone, Copy)]
 pub enum Numbers {
     Of(usize),
     Bad,

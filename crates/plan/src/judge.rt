@@ -23,7 +23,7 @@ use rules::{
 use sets::{User, Users};
 
 // The rows that a request would leave, and the orders it would give.
-#[derive(Drop)]
+#[derive(Clone, Copy)]
 pub struct After {
     pub users: usize,
     pub outer_vertices: usize,
@@ -33,7 +33,7 @@ pub struct After {
 }
 
 // The outer rows and the orders of a part of the work.
-#[derive(Drop)]
+#[derive(Clone, Copy)]
 pub struct Part {
     pub vertices: usize,
     pub tokens: usize,

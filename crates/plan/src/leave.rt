@@ -18,7 +18,7 @@ use rules::{Head, Resources};
 use sets::User;
 
 // The rows that lists add to the outer layer, and their re-locks.
-#[derive(Drop)]
+#[derive(Clone, Copy)]
 pub struct Tally {
     pub vertices: usize,
     pub tokens: usize,

@@ -9,7 +9,7 @@ pub mod leave;
 pub mod waiting;
 
 // A request that changes the book.
-#[derive(Drop)]
+#[derive(Clone, Copy)]
 pub enum Request {
     Join,
     Insert(Users),
@@ -19,14 +19,14 @@ pub enum Request {
 }
 
 // What applying a request needs to know: whether the folder will have no outer key, whether a kind 1 token is added, and the holders before.
-#[derive(Drop)]
+#[derive(Clone, Copy)]
 pub struct Plan {
     pub free: bool,
     pub token: bool,
     pub holders: Users,
 }
 
-#[derive(Drop)]
+#[derive(Clone, Copy)]
 pub enum Judged {
     Go(Plan),
     No(Refusal),

@@ -97,7 +97,7 @@ pub fn view(
 // ---- how long the chains are
 
 // How many rows each chain has.
-#[derive(Drop)]
+#[derive(Clone, Copy)]
 pub struct Lengths {
     pub inner: usize,
     pub outer: usize,
@@ -147,7 +147,7 @@ fn chain_lengths(
 }
 
 // 1, 11 and 10 of an open; else the chains' lengths. `room` numbers or rows are lent for them.
-#[derive(Drop)]
+#[derive(Clone, Copy)]
 pub enum Openable {
     Go(Lengths),
     No(Refusal),

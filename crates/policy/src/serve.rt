@@ -27,7 +27,7 @@ pub const CHAINS: usize = 2 * (Users::LIMIT as usize - 1);
 
 // ---- what a row asks
 
-#[derive(Drop)]
+#[derive(Clone, Copy)]
 pub enum Asks {
     Change(Request),
     Open(User, Resource),
@@ -80,7 +80,7 @@ fn row_asks(kind: u64, a: u64, b: u64) -> Asks
 // ---- one request
 
 // The head after it; the refusal's number or 0, the view for 11, the count of its rows.
-#[derive(Drop)]
+#[derive(Clone, Copy)]
 pub struct Answer {
     pub head: Head,
     pub number: u16,
@@ -206,7 +206,7 @@ fn answer_one(
 // ---- all of them
 
 // The head after all, and how many order rows they used.
-#[derive(Drop)]
+#[derive(Clone, Copy)]
 pub struct Totals {
     pub head: Head,
     pub used: usize,

@@ -17,14 +17,14 @@ use rules::{Head, InnerTokens, Joined, Letter, OuterTokens, OuterVertices, Resou
 use sets::Users;
 
 // Where a rule is broken first.
-#[derive(Drop)]
+#[derive(Clone, Copy)]
 pub enum Broken {
     Nowhere,
     By(Spot),
 }
 
 // Which rule is broken first, and where.
-#[derive(Drop)]
+#[derive(Clone, Copy)]
 pub enum Judged {
     Sound,
     Breaks(Letter, Spot),

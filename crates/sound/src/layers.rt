@@ -78,7 +78,7 @@ pub fn ownless(vertices: &[u8], n: usize, users: u16) -> Found
 }
 
 // A rule that speaks of one token and the sets at its ends.
-#[derive(Drop)]
+#[derive(Clone, Copy)]
 pub enum Rule {
     S2,
     S4,

@@ -166,6 +166,7 @@ told-keeps (loads c ∷ es) p a u h = absurd (false≢true (ap is_did (p (loads 
 -- and a leave among the events puts u there
 told-left : (es : List Event) → Plain es → (a : Access) (u : ℕ) → Memᴰ (did (leaves u)) es → has (told es a).leavers u ≡ true
 unfolding told listed
+told-left [] p a u x'' = elim x'' [ ]
 told-left (e ∷ es) p a u (Memᴰ.head q) =
     subst (λ (x : Event). has (told (x ∷ es) a).leavers u ≡ true) q
     (told-keeps es (λ e m. p e (Memᴰ.tail m)) (listed (leaves u) a) u (has-union-right a.leavers (single u) u (has-own u)))

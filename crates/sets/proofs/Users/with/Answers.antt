@@ -1,0 +1,6 @@
+-- `sets::Users::with` meets its contract. Assumes nothing.
+use borrow.Author.Rules.{rules}
+use Rattle.sets.proofs.Users.with.Goals as goal
+
+pub returns : goal.returns
+returns c = cc
