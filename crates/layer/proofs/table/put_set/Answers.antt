@@ -1,0 +1,8 @@
+-- `layer::table::put_set` meets its contract. Assumes nothing.
+use borrow.Author.Rules.{rules}
+use Rattle.rules.specs.Bytes.{set_row}
+use Rattle.layer.proofs.table.put_set.Goals as goal
+
+pub returns : goal.returns
+unfolding set_row
+returns c = c.write.ensures

@@ -1,0 +1,16 @@
+-- `layer::table::resource_in` meets its contract. Assumes nothing.
+use mathlib.Core.Path.{sym, ap, ap₂, ◌∙◌}
+use Prim.Native.Nat.{ℕ, ◌+◌, ◌*◌}
+use Rattle.sets.specs.Words.{bytes}
+use Rattle.rows.specs.Number.{cell}
+use Rattle.layer.proofs.Read.{resource, resource-at}
+use borrow.Author.Rules.{rules}
+use Rattle.layer.proofs.table.resource_in.Goals as goal
+
+pub returns : goal.returns
+returns c =
+    let t = c.args.resources.now in
+    let at = c.args.row * (bytes + 4) in
+    ap (λ (x : ℕ). resource x c.get2.result c.get2-2.result) c.read-list.ensures
+    ∙ ap₂ (resource (cell bytes at t)) c.get2.ensures c.get2-2.ensures
+    ∙ sym (resource-at c.args.n t c.args.row c.requires.1)

@@ -1,0 +1,9 @@
+-- `layer::table::set_of` meets its contract. Assumes nothing.
+use mathlib.Core.Path.{sym, ◌∙◌}
+use borrow.Author.Rules.{rules}
+use Rattle.layer.proofs.Read.{set_at}
+use Rattle.layer.proofs.table.set_of.Goals as goal
+
+pub returns : goal.returns
+returns c =
+    c.read.ensures ∙ sym (set_at c.args.n c.args.vertices.now c.args.v c.requires.1)

@@ -1,0 +1,40 @@
+-- `layer::walk::find_back` meets its contract. The loop's invariant: none of the rows passed is one that the test takes. Assumes nothing.
+use Prim.Native.Nat.{◌-◌}
+use native.Mathlib.Omega.{arith}
+use Rattle.rules.specs.Layer.{token, set_of}
+use Rattle.rules.specs.Bytes.{tokens_in}
+use Rattle.rules.specs.Open.{back, token_at}
+use Rattle.layer.specs.Laid.{layer_of, enters_from}
+use Rattle.layer.proofs.Read.{length-tokens}
+use Rattle.layer.proofs.Search.{Passed, row_here, row_on, row-over}
+use Rattle.layer.proofs.walk.find_back.Goals as goal
+
+pub loop-i-init : goal.loop-i-init
+loop-i-init c = omega arith
+
+pub returns-then-i-l : goal.returns-then-i-l
+unfolding back layer_of set_of
+returns-then-i-l c = row-over _ _ _ c.loop-i.invariant (omega arith)
+
+pub token_in-t-requires : goal.token_in-t-requires
+token_in-t-requires c = omega arith
+
+pub enters-requires : goal.enters-requires
+unfolding layer_of token_at
+enters-requires c =
+    (c.requires.laid.sets, rw c.token_in-t.ensures (c.requires.laid.from< c.loop-i.i (omega arith)), c.requires.u_lt_people)
+
+pub overflow_add-i : goal.overflow_add-i
+overflow_add-i c = omega arith
+
+pub loop-i-smaller : goal.loop-i-smaller
+loop-i-smaller c = omega arith
+
+pub loop-i-preserved : goal.loop-i-preserved
+loop-i-preserved c =
+    row_on _ _ _ (token 0 0 0) c.loop-i.invariant (omega arith) c.token_in-t.ensures c.enters.ensures (length-tokens _ _ _) c.if-enters.false
+
+pub returns : goal.returns
+unfolding back layer_of set_of
+returns c =
+    row_here _ _ _ (token 0 0 0) c.loop-i.invariant (omega arith) c.token_in-t.ensures c.enters.ensures c.if-enters.true
