@@ -1,0 +1,14 @@
+-- `lines::request::insert_of` meets its contract. Assumes nothing.
+use mathlib.Core.Path.{sym, ◌∙◌}
+use borrow.Author.Rules.{rules}
+use Rattle.lines.specs.Request.{insert_of}
+use Rattle.lines.proofs.request.insert_of.Goals as goal
+
+pub returns-then-repeats : goal.returns-then-repeats
+unfolding insert_of
+returns-then-repeats c = rw (sym c.repeats.ensures ∙ c.if-repeats.true)
+
+pub returns : goal.returns
+unfolding insert_of
+returns c =
+    rw (sym c.repeats.ensures ∙ c.if-repeats.false, c.users_of-a.ensures, c.above_of-b.ensures)

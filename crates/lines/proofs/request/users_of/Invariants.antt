@@ -1,0 +1,20 @@
+use Prim.Native.Nat.{◌≤◌, ◌-◌}
+use mathlib.Core.Path.{◌≡◌, sym, ◌∙◌}
+use mathlib.Core.Logic.{⊎_elim}
+use native.Mathlib.Omega.{arith}
+use borrow.Author.Rules.{rules}
+use lib.Bits.{or_zero_l, or_zero_r}
+use lib.ListN.{length, drop, drop_of_length-le}
+use Rattle.sets.specs.Sets.{union}
+use Rattle.sets.specs.Words.{set_in}
+use Rattle.lines.specs.Request.{users}
+use Rattle.lines.proofs.Passed.{users-more, users-other}
+use Rattle.lines.proofs.request.users_of.Given as goal
+
+abbrev pub invariant-loop-i : goal.invariant-loop-i
+invariant-loop-i l =
+    (l.i ≤ length l.numbers) × (users l.numbers ≡ union (set_in l.s) (users (drop l.i l.numbers)))
+
+abbrev pub decreases-loop-i : goal.decreases-loop-i
+decreases-loop-i l =
+    length l.numbers - l.i

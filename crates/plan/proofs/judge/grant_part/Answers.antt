@@ -1,0 +1,13 @@
+-- `plan::judge::grant_part` meets its contract. Assumes nothing.
+use Rattle.layer.specs.Laid.{resource_is}
+use Rattle.plan.proofs.PartLaws.{grant-parts}
+use borrow.Author.Rules.{rules}
+use Rattle.plan.proofs.judge.grant_part.Goals as goal
+
+pub returns : goal.returns
+returns c =
+    let a = c.args in
+    record {
+      value = grant-parts _ _ _ _ _ (resource_is a.x) a.p c.with.ensures c.settled-s.ensures.value c.waiting-n.ensures.value c.with_neighbours.ensures.value;
+      few = c.with_neighbours.ensures.few;
+    }

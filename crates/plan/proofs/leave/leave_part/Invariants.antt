@@ -1,0 +1,15 @@
+use Prim.Native.Nat.{◌-◌, ◌≤◌, ◌<◌}
+use mathlib.Core.Path.{◌≡◌, refl}
+use native.Mathlib.Omega.{arith}
+use Rattle.rules.specs.Bytes.{resources_in}
+use Rattle.layer.specs.Make.{sets_only}
+use Rattle.plan.proofs.LeaveLaws.{Tallied, tallied-none, tallied-seen, tallied-step, tallied-all}
+use Rattle.plan.proofs.leave.leave_part.Given as goal
+
+abbrev pub invariant-loop-r : goal.invariant-loop-r
+invariant-loop-r l =
+    Tallied (sets_only l.vertices l.ov) (resources_in l.n l.rs) l.u.0 l.firsts l.new l.tokens l.locks l.r × (l.r ≤ l.n)
+
+abbrev pub decreases-loop-r : goal.decreases-loop-r
+decreases-loop-r l =
+    l.n - l.r

@@ -1,0 +1,17 @@
+use mathlib.Core.Bool.{not}
+use Prim.Native.Nat.{◌-◌}
+use native.Mathlib.Omega.{arith}
+use Rattle.rules.specs.Lists.{up_to}
+use Rattle.rules.specs.Bytes.{sets_in}
+use Rattle.layer.proofs.Search.{Passed, row-over, number-here, number-on}
+use Rattle.sound.specs.Faults.{has_own_in}
+use Rattle.sound.proofs.FaultLaws.{owner-told}
+use Rattle.sound.proofs.layers.ownless.Given as goal
+
+abbrev pub invariant-loop-u : goal.invariant-loop-u
+invariant-loop-u l =
+    Passed (λ v. not (has_own_in (sets_in l.n l.vertices) v)) (up_to l.users) l.users l.u
+
+abbrev pub decreases-loop-u : goal.decreases-loop-u
+decreases-loop-u l =
+    l.users - l.u
