@@ -1,7 +1,7 @@
 -- A host may stop anywhere in a request's orders (RULES 6.6): every encrypted folder that the request does not change opens for exactly its list, and one
 -- that it changes for all on both the old and the new list and for none on neither. Each request; StoppedLaws has runs of calls.
 -- Assumes nothing.
-use Prim.Native.Nat.{ℕ, zero, suc, ◌+◌, ◌≤◌, ◌<◌}
+use Prim.Native.Nat.{ℕ, zero, suc, ◌≤◌, ◌<◌}
 use mathlib.Core.Path.{◌≡◌, refl, sym, ap, ◌∙◌, subst}
 use mathlib.Core.Bool.{Bool, true, false, not}
 use mathlib.Core.Logic.{◌⊎◌, inl, inr, ◌≢◌}
@@ -13,7 +13,7 @@ use lib.ListN.{length, get_or, take, drop}
 use Rattle.sets.specs.Sets.{has, single, minus, within}
 use Rattle.sets.proofs.Laws.{both, has_within, has-minus}
 use Rattle.rules.specs.Layer.{Layer, vertex_for}
-use Rattle.rules.specs.Book.{Book, none, resource, with_inner, with_list, with_resources, Resource, with_leavers}
+use Rattle.rules.specs.Book.{Book, resource, with_inner, with_list, with_resources, Resource, with_leavers}
 use Rattle.rules.specs.Sound.{sound}
 use Rattle.rules.specs.Requests.{done, order, ◌then◌, vertex_orders, inner_vertex, lock, lock_list, lock_new, lock_all, encrypt, let_in, neighbours, grouped, settle, told_last, lock_near, join, insert, grant, revoke, naming, revoke_all, gone, leave}
 use Rattle.rules.specs.Refusals.{Request, joins, inserts, grants, revokes, work, refusal, leaves}

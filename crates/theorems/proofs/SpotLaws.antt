@@ -15,7 +15,6 @@ use Rattle.rules.specs.Tests.{Tested, rows, unlike_earlier, broken, or_rule, fir
 use Rattle.rules.specs.Book.{Book}
 use Rattle.rules.specs.Sound.{joined_set, placed_row, plain_row, placed, not_empty, enters_group, unequal, rising_row, united_vertex, new_row, held, locked, rows1, rows2, rows3, rows4, rows5, rows6, rows7, rows8, rules}
 use Rattle.rules.specs.declared.Letter.{Letter}
-use Rattle.rules.specs.declared.Letter.TheVariants as letter
 use Rattle.rules.specs.declared.Spot.{Spot}
 use Rattle.rules.specs.declared.Spot.TheVariants.{Row, Leavers, Missing}
 use Rattle.theorems.proofs.ListLaws.{length-numbered}

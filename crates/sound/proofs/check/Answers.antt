@@ -1,6 +1,5 @@
 -- `check` meets its contract. Where the counts are wrong the book is unsound; where they hold, long tables have room for the rows.
 -- Assumes nothing.
-use borrow.Author.Rules.{rules}
 use Rattle.sound.proofs.Answers.{yes}
 use Rattle.sound.proofs.Required.{counts-room}
 use Rattle.sound.proofs.Verdicts.{tables-short, counts-wrong, not_sound, is-sound}

@@ -1,6 +1,5 @@
 -- `long_enough` meets its contract: no table is short, table by table.
 -- Assumes nothing.
-use borrow.Author.Rules.{rules}
 use mathlib.Core.Path.{refl}
 use Rattle.sound.proofs.Answers.{over, under, stop, on, last}
 use Rattle.sound.proofs.Verdicts.{long-parts}

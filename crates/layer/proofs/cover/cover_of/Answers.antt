@@ -2,7 +2,6 @@
 use Prim.Native.Nat.{ℕ}
 use mathlib.Core.Path.{ap, ◌∙◌}
 use mathlib.Core.List.{List}
-use borrow.Author.Rules.{rules}
 use lib.ListN.{length}
 use Rattle.sets.specs.Words.{set_in}
 use Rattle.layer.specs.Cover.{cover_of}

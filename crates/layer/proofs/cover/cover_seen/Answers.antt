@@ -1,9 +1,8 @@
 -- `layer::cover::cover_seen` meets its contract: at each turn of both loops, what is taken and what is left to take are the cover. Assumes nothing.
 use mathlib.Core.Path.{◌≡◌, refl, sym, ap, ap₂, ◌∙◌}
 use mathlib.Core.List.{List, [], ◌++◌}
-use Prim.Native.Nat.{ℕ, ◌+◌, ◌*◌, ◌-◌, ◌≤◌, ◌<◌}
+use Prim.Native.Nat.{ℕ, ◌+◌, ◌≤◌, ◌<◌}
 use native.Mathlib.Omega.{arith}
-use borrow.Author.Rules.{rules}
 use borrow.Author.Tests.{eqb-true}
 use lib.ListN.{length, take, set, get_or, length-set}
 use Rattle.sets.specs.Sets.{union}
@@ -13,7 +12,6 @@ use Rattle.layer.specs.Seen.{seen_sets}
 use Rattle.layer.specs.Cover.{cover_of}
 use Rattle.layer.proofs.SeenLaws.{length_seen}
 use Rattle.layer.proofs.CoverLaws.{rest, rest-hit, rest-miss, rest-down, rest_end, rest-covered, rest-start, taken_next, taken-all, falls}
-use Rattle.layer.proofs.cover.cover_seen.Invariants.{Walk}
 use Rattle.layer.proofs.cover.cover_seen.Goals as goal
 
 pub overflow_add-n : goal.overflow_add-n
@@ -75,8 +73,7 @@ loop-i-preserved c =
     let at-vertex : c.loop-i.i < length sets = omega (arith, many) in
     let told : (l : List ℕ)
     → rest (set_in c.args.s) sets c.loop-i.k c.loop-i.i (set_in c.cover.covered) ≡ l
-    → take c.cover.taken c.cover.from ++ l ≡ covering = λ l e. ap (λ (r : List ℕ). take c.cover.taken c.cover.from ++ r) (sym e) ∙ c.loop-i.invariant.1 in
-    (
+    → take c.cover.taken c.cover.from ++ l ≡ covering = λ l e. ap (λ (r : List ℕ). take c.cover.taken c.cover.from ++ r) (sym e) ∙ c.loop-i.invariant.1 in (
       omega arith,
       told _ (rest-miss (set_in c.args.s) sets c.loop-i.k c.loop-i.i (set_in c.cover.covered) at-vertex c.adds.ensures c.if-adds.false),
     )

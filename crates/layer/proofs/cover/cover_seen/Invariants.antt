@@ -1,17 +1,11 @@
-use mathlib.Core.Path.{◌≡◌, refl, sym, ap, ap₂, ◌∙◌}
-use mathlib.Core.List.{List, [], ◌++◌}
-use Prim.Native.Nat.{ℕ, ◌+◌, ◌*◌, ◌-◌, ◌≤◌, ◌<◌}
-use native.Mathlib.Omega.{arith}
-use borrow.Author.Rules.{rules}
-use borrow.Author.Tests.{eqb-true}
-use lib.ListN.{length, take, set, get_or, length-set}
-use Rattle.sets.specs.Sets.{union}
+use mathlib.Core.Path.{◌≡◌}
+use mathlib.Core.List.{List, ◌++◌}
+use Prim.Native.Nat.{ℕ, ◌+◌, ◌*◌, ◌-◌, ◌≤◌}
+use lib.ListN.{length, take}
 use Rattle.sets.specs.Words.{people, set_in}
-use Rattle.theorems.proofs.CountLaws.{cover-size}
 use Rattle.layer.specs.Seen.{seen_sets}
 use Rattle.layer.specs.Cover.{cover_of}
-use Rattle.layer.proofs.SeenLaws.{length_seen}
-use Rattle.layer.proofs.CoverLaws.{rest, rest-hit, rest-miss, rest-down, rest_end, rest-covered, rest-start, taken_next, taken-all, falls}
+use Rattle.layer.proofs.CoverLaws.{rest}
 use Rattle.layer.proofs.cover.cover_seen.Given as goal
 
 -- the walk is at a vertex or past the last, and has the cover in two parts

@@ -1,10 +1,10 @@
 -- `layer::put_cover` meets its contract: the tokens from the first i vertices of the cover are stored. Assumes nothing.
 use mathlib.Core.Path.{◌≡◌, sym, ◌∙◌}
-use Prim.Native.Nat.{◌+◌, ◌*◌, ◌-◌, ◌≤◌}
+use Prim.Native.Nat.{◌+◌}
 use native.Mathlib.Omega.{arith}
-use lib.ListN.{length, take, length-map}
+use lib.ListN.{length}
 use Rattle.sets.specs.Words.{people}
-use Rattle.rows.specs.Number.{stored, joined}
+use Rattle.rows.specs.Number.{joined}
 use Rattle.rows.proofs.Laws.{stored-none}
 use Rattle.rows.proofs.Fill.{row_within, le-product, fill-length, fill-next}
 use Rattle.layer.specs.Cover.{cover_bytes}
@@ -33,8 +33,7 @@ put_token-requires c =
     let places : length c.args.c.from ≡ people = c.well_formed.1.1.1.0.1.1.0.1.0.1 in
     let long : length c.loop-i.tokens ≡ length c.args.tokens.now = fill-length c.args.width (λ v. token_row c.args.width (token v c.args.new 0))
     (λ v. length-token-row c.args.width (token v c.args.new 0) c.requires.1) c.args.row c.args.c.count c.args.c.from c.args.tokens.now
-    c.requires.3 (omega (arith, places)) c.loop-i.i c.loop-i.invariant.0 c.loop-i.invariant.1 in
-    (
+    c.requires.3 (omega (arith, places)) c.loop-i.i c.loop-i.invariant.0 c.loop-i.invariant.1 in (
       c.requires.0,
       c.requires.1,
       omega (arith, long, row_within (c.args.row + c.loop-i.i) (c.args.row + c.args.c.count) c.args.width (omega arith)),
@@ -49,8 +48,7 @@ loop-i-smaller c = omega arith
 pub loop-i-preserved : goal.loop-i-preserved
 unfolding cover_bytes
 loop-i-preserved c =
-    let places : length c.args.c.from ≡ people = c.well_formed.1.1.1.0.1.1.0.1.0.1 in
-    (
+    let places : length c.args.c.from ≡ people = c.well_formed.1.1.1.0.1.1.0.1.0.1 in (
       omega arith,
       fill-next c.args.width (λ v. token_row c.args.width (token v c.args.new 0))
           (λ v. length-token-row c.args.width (token v c.args.new 0) c.requires.1) c.args.row c.args.c.count c.args.c.from c.args.tokens.now

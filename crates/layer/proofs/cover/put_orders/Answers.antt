@@ -1,10 +1,9 @@
 -- `layer::put_orders` meets its contract: the orders of the first i vertices of the cover are stored. Assumes nothing.
 use mathlib.Core.Path.{◌≡◌, refl, sym, ◌∙◌}
-use Prim.Native.Nat.{◌*◌, ◌-◌, ◌≤◌}
 use native.Mathlib.Omega.{arith}
-use lib.ListN.{length, take, length-map}
+use lib.ListN.{length}
 use Rattle.sets.specs.Words.{people}
-use Rattle.rows.specs.Number.{stored, joined}
+use Rattle.rows.specs.Number.{joined}
 use Rattle.rows.proofs.Laws.{stored-none}
 use Rattle.rows.proofs.Fill.{fill-length, fill-next}
 use Rattle.layer.specs.Cover.{order_of, cover_orders}
@@ -40,8 +39,7 @@ loop-i-smaller c = omega arith
 pub loop-i-preserved : goal.loop-i-preserved
 unfolding cover_orders
 loop-i-preserved c =
-    let places : length c.args.c.from ≡ people = c.well_formed.1.1.1.0.1.1.0.1.0.1 in
-    (
+    let places : length c.args.c.from ≡ people = c.well_formed.1.1.1.0.1.1.0.1.0.1 in (
       omega arith,
       fill-next 3 (λ v. order_of c.args.kind v c.args.new) (λ v. refl) c.args.row c.args.c.count c.args.c.from c.args.orders.now
           c.requires.1 (omega (arith, places)) 0 c.loop-i.i (omega arith) c.loop-i.invariant.1 c.put_order.ensures,

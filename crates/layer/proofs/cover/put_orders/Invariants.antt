@@ -1,12 +1,8 @@
-use mathlib.Core.Path.{◌≡◌, refl, sym, ◌∙◌}
+use mathlib.Core.Path.{◌≡◌}
 use Prim.Native.Nat.{◌*◌, ◌-◌, ◌≤◌}
-use native.Mathlib.Omega.{arith}
-use lib.ListN.{length, take, length-map}
-use Rattle.sets.specs.Words.{people}
-use Rattle.rows.specs.Number.{stored, joined}
-use Rattle.rows.proofs.Laws.{stored-none}
-use Rattle.rows.proofs.Fill.{fill-length, fill-next}
-use Rattle.layer.specs.Cover.{order_of, cover_orders}
+use lib.ListN.{take}
+use Rattle.rows.specs.Number.{stored}
+use Rattle.layer.specs.Cover.{cover_orders}
 use Rattle.layer.proofs.cover.put_orders.Given as goal
 
 abbrev pub invariant-loop-i : goal.invariant-loop-i

@@ -1,5 +1,4 @@
 -- `layer::holders::holders_of` meets its contract. Assumes nothing.
-use borrow.Author.Rules.{rules}
 use Rattle.rules.specs.Layer.{set_of}
 use Rattle.rules.specs.Holders.{by_token}
 use Rattle.layer.specs.Laid.{layer_of}

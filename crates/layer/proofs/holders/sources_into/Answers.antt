@@ -1,10 +1,8 @@
 -- `layer::holders::sources_into` meets its contract. The loop's invariant: the union is the one over the first i tokens. Assumes nothing.
 use mathlib.Core.Path.{◌≡◌, sym, ap, ap₂, ◌∙◌}
-use mathlib.Core.Logic.{⊎_elim}
-use Prim.Native.Nat.{◌≤◌, ◌<◌, ◌-◌}
+use Prim.Native.Nat.{◌<◌}
 use native.Mathlib.Omega.{arith}
 use lib.ListN.{length}
-use borrow.Author.Rules.{rules}
 use Rattle.sets.specs.Sets.{union}
 use Rattle.sets.specs.Words.{set_in}
 use Rattle.rules.specs.Layer.{Layer}
@@ -41,7 +39,7 @@ loop-i-preserved c =
     let set = sym (layer-set a.l a.tokens.now a.vertices.now t.from) in (
       omega arith,
       elim c.if-t-kind.branch [
-        then-t-kind+then-t-v w ↦
+        | then-t-kind+then-t-v w ↦
             ap set_in w.all-is ∙ w.union-all.ensures ∙ ap₂ union was (w.set_of.ensures ∙ set)
             ∙ sym (union-to-more L a.kind a.v i below t here w.if-t-kind.true w.if-t-v.true)
         | then-t-kind+else-t-v w ↦ ap set_in w.all-is ∙ was ∙ sym (union-to-end L a.kind a.v i below t here w.if-t-v.false)

@@ -1,16 +1,14 @@
 -- `layer::holders::unions` meets its contract. The loop's invariant: every cell is the union over the first i tokens. Assumes nothing.
 use mathlib.Core.Path.{◌≡◌, sym, ap, ◌∙◌}
-use mathlib.Core.Logic.{⊎_elim}
-use Prim.Native.Nat.{◌≤◌, ◌<◌, ◌-◌}
+use Prim.Native.Nat.{◌<◌}
 use native.Mathlib.Omega.{arith}
 use lib.ListN.{length}
-use borrow.Author.Rules.{rules}
 use Rattle.rules.specs.Layer.{Layer}
 use Rattle.rules.specs.Open.{token_at}
 use Rattle.rules.specs.declared.Token.{Token}
 use Rattle.layer.specs.Laid.{layer_of, max_vertices}
 use Rattle.layer.proofs.Read.{layer-tokens, layer-set}
-use Rattle.layer.proofs.Sources.{Unions, unions-none, unions-kind, unions-more, unions-all}
+use Rattle.layer.proofs.Sources.{unions-none, unions-kind, unions-more, unions-all}
 use Rattle.layer.proofs.holders.unions.Goals as goal
 use Rattle.layer.proofs.holders.unions.Goals.{then-t-kind, else-t-kind}
 
@@ -69,7 +67,7 @@ loop-i-preserved c =
     let set = sym (layer-set a.l a.tokens.now a.vertices.now c.token_in-t.result.from) in (
       omega arith,
       elim c.if-t-kind.branch [
-        then-t-kind w ↦ unions-more _ _ below token-read u w.if-t-kind.true target (w.set_of.ensures ∙ set) w.union-more.ensures w.all-is
+        | then-t-kind w ↦ unions-more _ _ below token-read u w.if-t-kind.true target (w.set_of.ensures ∙ set) w.union-more.ensures w.all-is
         | else-t-kind w ↦ unions-kind _ _ below token-read u w.if-t-kind.false w.all-is
       ],
     )

@@ -2,7 +2,6 @@
 use Prim.Native.Nat.{ℕ}
 use mathlib.Core.Path.{ap, ◌∙◌}
 use mathlib.Core.List.{List, []}
-use borrow.Author.Rules.{rules}
 use Rattle.sets.specs.Words.{set_in}
 use Rattle.theorems.specs.Plan.{new_vertices, new_tokens}
 use Rattle.layer.proofs.SeenLaws.{laid-seen, laid-sets}

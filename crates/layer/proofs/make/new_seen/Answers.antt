@@ -1,7 +1,6 @@
 -- `layer::make::new_seen` meets its contract. Assumes nothing.
 use mathlib.Core.Path.{sym, ◌∙◌}
 use native.Mathlib.Omega.{arith}
-use borrow.Author.Rules.{rules}
 use Rattle.sets.specs.Words.{set_in}
 use Rattle.rules.specs.Layer.{Layer}
 use Rattle.layer.specs.Seen.{seen_layer}

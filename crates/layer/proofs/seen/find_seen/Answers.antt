@@ -1,12 +1,7 @@
 -- `layer::seen::find_seen` meets its contract. The loop's invariant: none of the sets before i is s. Assumes nothing.
-use Prim.Native.Nat.{◌-◌}
 use native.Mathlib.Omega.{arith}
-use borrow.Author.Rules.{rules}
-use Rattle.sets.specs.Words.{set_in}
-use Rattle.layer.specs.Laid.{is_set}
-use Rattle.layer.specs.Seen.{seen_sets}
 use Rattle.layer.proofs.SeenLaws.{length_seen}
-use Rattle.layer.proofs.Search.{Passed, row_here, row_on, row-over}
+use Rattle.layer.proofs.Search.{row_here, row_on, row-over}
 use Rattle.layer.proofs.seen.find_seen.Goals as goal
 
 pub overflow_add-n : goal.overflow_add-n

@@ -2,7 +2,6 @@
 use mathlib.Core.Path.{sym, ap, ◌∙◌}
 use native.Mathlib.Nat.{lt_trans}
 use native.Mathlib.Omega.{arith}
-use borrow.Author.Rules.{rules}
 use lib.Dec.{lit≤}
 use Rattle.sets.specs.Sets.{minus, single}
 use Rattle.rules.specs.Book.{Resource}

@@ -1,12 +1,7 @@
 -- `layer::table::find_set` meets its contract. The loop's invariant: none of the sets before i is s. Assumes nothing.
-use Prim.Native.Nat.{◌-◌}
 use native.Mathlib.Omega.{arith}
-use borrow.Author.Rules.{rules}
-use Rattle.sets.specs.Words.{set_in}
-use Rattle.rules.specs.Bytes.{sets_in}
-use Rattle.layer.specs.Laid.{is_set}
 use Rattle.layer.proofs.Read.{length-sets}
-use Rattle.layer.proofs.Search.{Passed, row_here, row_on, row-over}
+use Rattle.layer.proofs.Search.{row_here, row_on, row-over}
 use Rattle.layer.proofs.table.find_set.Goals as goal
 
 pub loop-i-init : goal.loop-i-init

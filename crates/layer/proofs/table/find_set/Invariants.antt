@@ -1,11 +1,8 @@
 use Prim.Native.Nat.{◌-◌}
-use native.Mathlib.Omega.{arith}
-use borrow.Author.Rules.{rules}
 use Rattle.sets.specs.Words.{set_in}
 use Rattle.rules.specs.Bytes.{sets_in}
 use Rattle.layer.specs.Laid.{is_set}
-use Rattle.layer.proofs.Read.{length-sets}
-use Rattle.layer.proofs.Search.{Passed, row_here, row_on, row-over}
+use Rattle.layer.proofs.Search.{Passed}
 use Rattle.layer.proofs.table.find_set.Given as goal
 
 abbrev pub invariant-loop-i : goal.invariant-loop-i

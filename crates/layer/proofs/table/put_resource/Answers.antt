@@ -5,7 +5,6 @@ use Rattle.sets.specs.Words.{bytes}
 use Rattle.rows.specs.Number.{bytes_of, stored}
 use Rattle.layer.specs.Laid.{resource_is}
 use Rattle.layer.proofs.Write.{resource-put}
-use borrow.Author.Rules.{rules}
 use Rattle.layer.proofs.table.put_resource.Goals as goal
 
 pub returns : goal.returns

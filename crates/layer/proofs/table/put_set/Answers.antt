@@ -1,5 +1,4 @@
 -- `layer::table::put_set` meets its contract. Assumes nothing.
-use borrow.Author.Rules.{rules}
 use Rattle.rules.specs.Bytes.{set_row}
 use Rattle.layer.proofs.table.put_set.Goals as goal
 

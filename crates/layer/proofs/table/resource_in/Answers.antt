@@ -4,7 +4,6 @@ use Prim.Native.Nat.{ℕ, ◌+◌, ◌*◌}
 use Rattle.sets.specs.Words.{bytes}
 use Rattle.rows.specs.Number.{cell}
 use Rattle.layer.proofs.Read.{resource, resource-at}
-use borrow.Author.Rules.{rules}
 use Rattle.layer.proofs.table.resource_in.Goals as goal
 
 pub returns : goal.returns

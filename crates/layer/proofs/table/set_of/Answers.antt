@@ -1,6 +1,5 @@
 -- `layer::table::set_of` meets its contract. Assumes nothing.
 use mathlib.Core.Path.{sym, ◌∙◌}
-use borrow.Author.Rules.{rules}
 use Rattle.layer.proofs.Read.{set_at}
 use Rattle.layer.proofs.table.set_of.Goals as goal
 

@@ -1,9 +1,6 @@
 -- `layer::walk::chain_length`, which calls itself, meets its contract. Assumes nothing.
-use Rattle.std.proofs.Common.{◌≡◌, sym, ap, ◌∙◌, arith, ℕ, ◌+◌, length}
-use Rattle.rules.specs.Layer.{Layer}
-use Rattle.rules.specs.Open.{chain}
-use Rattle.layer.specs.Laid.{layer_of}
-use Rattle.layer.proofs.Steps.{Stepped, chain-stops, chain-goes, length_more, kept, in_table, chain_fits}
+use Rattle.std.proofs.Common.{sym, ap, ◌∙◌, arith, ℕ, ◌+◌, length}
+use Rattle.layer.proofs.Steps.{chain-stops, chain-goes, length_more, kept, in_table, chain_fits}
 use Rattle.layer.proofs.walk.+chain_length.Goals as goal
 
 pub returns-in_default : goal.returns-in_default
@@ -12,13 +9,12 @@ returns-in_default t c =
 
 pub chain_length-requires : goal.chain_length-requires
 chain_length-requires t c =
-    let w = chain-goes (kept c.requires.kept) c.args.u.0 c.args.v c.requires.v_lt_vertices.2 c.in-Through.is c.step_back.ensures in
-    (
+    let w = chain-goes (kept c.requires.kept) c.args.u.0 c.args.v c.requires.v_lt_vertices.2 c.in-Through.is c.step_back.ensures in (
       omega (arith, w.falls, c.decreases),
       (
         c.requires.kept,
-        (in_table c.requires.kept c.args.u.0 c.in-Through.from w.names, c.requires.v_lt_vertices.1, w.names)
-      )
+        (in_table c.requires.kept c.args.u.0 c.in-Through.from w.names, c.requires.v_lt_vertices.1, w.names),
+      ),
     )
 
 -- its row and those before it are the chain

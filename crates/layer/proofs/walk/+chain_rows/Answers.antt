@@ -1,5 +1,5 @@
 -- `layer::walk::chain_rows`, which calls itself, meets its contract. Assumes nothing.
-use Rattle.std.proofs.Common.{◌≡◌, sym, ap, ◌∙◌, arith, ℕ, ◌+◌, ◌<◌, List, length}
+use Rattle.std.proofs.Common.{sym, ap, ◌∙◌, arith, ℕ, ◌+◌, List, length}
 use Rattle.rows.specs.Number.{stored}
 use Rattle.rows.proofs.Laws.{stored-none}
 use Rattle.layer.proofs.Steps.{chain-stops, chain-goes, length_more, kept, in_table, written}
@@ -15,16 +15,15 @@ returns-in_default t c =
 
 pub chain_rows-k-requires : goal.chain_rows-k-requires
 chain_rows-k-requires t c =
-    let w = chain-goes (kept c.requires.kept) c.args.u.0 c.args.v c.requires.v_lt_vertices.2 c.in-Through.is c.step_back.ensures in
-    (
+    let w = chain-goes (kept c.requires.kept) c.args.u.0 c.args.v c.requires.v_lt_vertices.2 c.in-Through.is c.step_back.ensures in (
       omega (arith, w.falls, c.decreases),
       (
         c.requires.kept,
         (
           (in_table c.requires.kept c.args.u.0 c.in-Through.from w.names, c.requires.v_lt_vertices.1, w.names),
-          omega (arith, length_more w, c.requires.v_in_bounds)
-        )
-      )
+          omega (arith, length_more w, c.requires.v_in_bounds),
+        ),
+      ),
     )
 
 -- the next place of the list

@@ -1,7 +1,6 @@
 -- `layer::walk::enters` meets its contract. Assumes nothing.
 use Prim.Native.Nat.{ℕ}
 use mathlib.Core.Path.{ap, ◌∙◌}
-use borrow.Author.Rules.{rules}
 use borrow.Author.Tests.{eq-eqb, ne_eqb}
 use Rattle.sets.specs.Sets.{has}
 use Rattle.layer.proofs.walk.enters.Goals as goal

@@ -1,12 +1,10 @@
 -- `layer::walk::find_back` meets its contract. The loop's invariant: none of the rows passed is one that the test takes. Assumes nothing.
-use Prim.Native.Nat.{◌-◌}
 use native.Mathlib.Omega.{arith}
 use Rattle.rules.specs.Layer.{token, set_of}
-use Rattle.rules.specs.Bytes.{tokens_in}
 use Rattle.rules.specs.Open.{back, token_at}
-use Rattle.layer.specs.Laid.{layer_of, enters_from}
+use Rattle.layer.specs.Laid.{layer_of}
 use Rattle.layer.proofs.Read.{length-tokens}
-use Rattle.layer.proofs.Search.{Passed, row_here, row_on, row-over}
+use Rattle.layer.proofs.Search.{row_here, row_on, row-over}
 use Rattle.layer.proofs.walk.find_back.Goals as goal
 
 pub loop-i-init : goal.loop-i-init

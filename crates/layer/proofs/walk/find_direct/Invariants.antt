@@ -1,11 +1,7 @@
 use Prim.Native.Nat.{◌-◌}
-use native.Mathlib.Omega.{arith}
-use Rattle.rules.specs.Layer.{token, set_of}
 use Rattle.rules.specs.Bytes.{tokens_in}
-use Rattle.rules.specs.Open.{direct, token_at}
-use Rattle.layer.specs.Laid.{layer_of, starts_at}
-use Rattle.layer.proofs.Read.{length-tokens}
-use Rattle.layer.proofs.Search.{Passed, row_here, row_on, row-over}
+use Rattle.layer.specs.Laid.{starts_at}
+use Rattle.layer.proofs.Search.{Passed}
 use Rattle.layer.proofs.walk.find_direct.Given as goal
 
 abbrev pub invariant-loop-i : goal.invariant-loop-i

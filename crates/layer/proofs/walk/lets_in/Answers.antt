@@ -1,7 +1,6 @@
 -- `layer::walk::lets_in` meets its contract. Assumes nothing.
 use mathlib.Core.Path.{ap₂, ◌∙◌}
 use lib.Dec.{eqb}
-use borrow.Author.Rules.{rules}
 use borrow.Author.Tests.{eq-eqb, ne_eqb}
 use Rattle.layer.proofs.walk.lets_in.Goals as goal
 

@@ -39,12 +39,11 @@ loop-i-smaller c = omega arith
 
 pub loop-i-preserved : goal.loop-i-preserved
 loop-i-preserved c =
-    let l = c.loop-i in
-    (
+    let l = c.loop-i in (
       omega arith,
       l.invariant.1
           ∙ elim c.if-n.branch [
-            then-n w ↦ rw (w.s-is, w.with-s.ensures) (users-more c.args.numbers.now l.i (set_in l.s) (omega arith) w.if-n.true)
+            | then-n w ↦ rw (w.s-is, w.with-s.ensures) (users-more c.args.numbers.now l.i (set_in l.s) (omega arith) w.if-n.true)
             | else-n w ↦ rw w.s-is (users-other c.args.numbers.now l.i (set_in l.s) (omega arith) w.if-n.false)
           ],
     )

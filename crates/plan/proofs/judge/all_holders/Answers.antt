@@ -1,6 +1,5 @@
 -- `plan::judge::all_holders` meets its contract. Assumes nothing.
 use Rattle.plan.proofs.PartLaws.{holders-by}
-use borrow.Author.Rules.{rules}
 use Rattle.plan.proofs.judge.all_holders.Goals as goal
 
 pub returns : goal.returns

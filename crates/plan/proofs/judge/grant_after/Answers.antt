@@ -1,6 +1,5 @@
 -- `plan::judge::grant_after` meets its contract. Assumes nothing.
 use Rattle.plan.proofs.PartLaws.{after-token, after_none}
-use borrow.Author.Rules.{rules}
 use Rattle.plan.proofs.judge.grant_after.Goals as goal
 
 pub returns-then-token : goal.returns-then-token

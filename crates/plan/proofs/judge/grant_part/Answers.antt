@@ -1,7 +1,6 @@
 -- `plan::judge::grant_part` meets its contract. Assumes nothing.
 use Rattle.layer.specs.Laid.{resource_is}
 use Rattle.plan.proofs.PartLaws.{grant-parts}
-use borrow.Author.Rules.{rules}
 use Rattle.plan.proofs.judge.grant_part.Goals as goal
 
 pub returns : goal.returns

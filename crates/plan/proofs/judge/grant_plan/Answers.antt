@@ -1,7 +1,6 @@
 -- `plan::judge::grant_plan` meets its contract. Assumes nothing.
 use native.Mathlib.Omega.{arith}
 use Rattle.plan.proofs.PartLaws.{plan-full, plan-delta, shape-laid, shape-holders}
-use borrow.Author.Rules.{rules}
 use Rattle.sets.specs.Words.{set_in}
 use Rattle.plan.proofs.judge.grant_plan.Goals as goal
 

@@ -2,7 +2,6 @@
 use mathlib.Core.Path.{◌∙◌}
 use native.Mathlib.Omega.{arith}
 use Rattle.plan.proofs.PartLaws.{holders-there, holders-found, holders-new}
-use borrow.Author.Rules.{rules}
 use Rattle.plan.proofs.judge.holders_are.Goals as goal
 
 pub overflow_cast-v : goal.overflow_cast-v

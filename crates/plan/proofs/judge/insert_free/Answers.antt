@@ -1,7 +1,6 @@
 -- `plan::judge::insert_free` meets its contract. Assumes nothing.
 use native.Mathlib.Omega.{arith}
 use Rattle.plan.proofs.PartLaws.{free-full, free-delta, shape-laid}
-use borrow.Author.Rules.{rules}
 use Rattle.plan.proofs.judge.insert_free.Goals as goal
 
 pub returns-then-h-ne1 : goal.returns-then-h-ne1

@@ -1,5 +1,4 @@
 -- `plan::judge::judge` meets its contract. Assumes nothing.
-use borrow.Author.Rules.{rules}
 use Rattle.plan.proofs.judge.judge.Goals as goal
 
 pub returns-in-Join : goal.returns-in-Join

@@ -3,7 +3,6 @@ use Prim.Native.Nat.{◌<◌}
 use mathlib.Core.Path.{◌≡◌, sym, ◌∙◌}
 use mathlib.Core.Bool.{false}
 use native.Mathlib.Omega.{arith}
-use borrow.Author.Rules.{rules}
 use Rattle.sets.specs.Sets.{has}
 use Rattle.sets.specs.Words.{set_in}
 use Rattle.rules.specs.Bytes.{tables}

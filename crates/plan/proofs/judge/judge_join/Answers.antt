@@ -1,5 +1,4 @@
 -- `plan::judge::judge_join` meets its contract. Assumes nothing.
-use borrow.Author.Rules.{rules}
 use Rattle.plan.proofs.JudgeLaws.{join-full, join-short, join-judged}
 use Rattle.plan.proofs.judge.judge_join.Goals as goal
 

@@ -2,7 +2,6 @@
 use Prim.Native.Nat.{◌≤◌, ◌<◌}
 use mathlib.Core.Path.{sym, ◌∙◌}
 use native.Mathlib.Omega.{arith}
-use borrow.Author.Rules.{rules}
 use Rattle.rules.specs.Bytes.{tables}
 use Rattle.plan.proofs.PartLaws.{users-within}
 use Rattle.plan.proofs.ReadyLaws.{Sizes, sizes}

@@ -1,8 +1,6 @@
 -- `plan::judge::judge_revoke` meets its contract. Assumes nothing.
 use Prim.Native.Nat.{◌<◌}
 use native.Mathlib.Omega.{arith}
-use borrow.Author.Rules.{rules}
-use borrow.Author.Tests.{not-true, not-false}
 use Rattle.rules.specs.Bytes.{tables}
 use Rattle.plan.proofs.PartLaws.{there, users-within}
 use Rattle.plan.proofs.ReadyLaws.{Sizes, sizes}

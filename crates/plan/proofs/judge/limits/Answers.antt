@@ -1,6 +1,5 @@
 -- `plan::judge::limits` meets its contract. Assumes nothing.
 use Rattle.plan.proofs.PartLaws.{groups-full, inner-full, outer-full, list-short, all-within}
-use borrow.Author.Rules.{rules}
 use Rattle.plan.proofs.judge.limits.Goals as goal
 
 pub returns-then-a : goal.returns-then-a

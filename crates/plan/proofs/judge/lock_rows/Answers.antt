@@ -1,7 +1,6 @@
 -- `plan::judge::lock_rows` meets its contract. Assumes nothing.
 use native.Mathlib.Omega.{arith}
 use Rattle.plan.proofs.PartLaws.{lock-part}
-use borrow.Author.Rules.{rules}
 use Rattle.plan.proofs.judge.lock_rows.Goals as goal
 
 pub returns : goal.returns

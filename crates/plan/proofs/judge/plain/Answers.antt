@@ -3,7 +3,6 @@ use Prim.Native.Nat.{ℕ}
 use mathlib.Core.Path.{ap}
 use mathlib.Core.Bool.{false}
 use Rattle.plan.specs.Judge.{plan}
-use borrow.Author.Rules.{rules}
 use Rattle.plan.proofs.judge.plain.Goals as goal
 
 pub returns : goal.returns

@@ -1,8 +1,6 @@
 -- `plan::judge::settled` meets its contract. Assumes nothing.
-use borrow.Author.Tests.{not-true, not-false}
 use native.Mathlib.Omega.{arith}
 use Rattle.plan.proofs.PartLaws.{settled-lock, settled-bare, settled-free}
-use borrow.Author.Rules.{rules}
 use Rattle.plan.proofs.judge.settled.Goals as goal
 
 pub returns-then-not-free : goal.returns-then-not-free

@@ -1,7 +1,6 @@
 -- `plan::judge::with_neighbours` meets its contract. Assumes nothing.
 use native.Mathlib.Omega.{arith}
 use Rattle.plan.proofs.PartLaws.{none-waiting, some-waiting}
-use borrow.Author.Rules.{rules}
 use Rattle.plan.proofs.judge.with_neighbours.Goals as goal
 
 pub returns-then-n-eq0 : goal.returns-then-n-eq0

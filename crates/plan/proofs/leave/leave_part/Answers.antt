@@ -1,10 +1,8 @@
 -- `plan::leave::leave_part` meets its contract: what is counted of the first r resources is what their revokes would add. Assumes nothing.
-use Prim.Native.Nat.{◌-◌, ◌≤◌, ◌<◌}
+use Prim.Native.Nat.{◌<◌}
 use mathlib.Core.Path.{◌≡◌, refl}
 use native.Mathlib.Omega.{arith}
-use Rattle.rules.specs.Bytes.{resources_in}
-use Rattle.layer.specs.Make.{sets_only}
-use Rattle.plan.proofs.LeaveLaws.{Tallied, tallied-none, tallied-seen, tallied-step, tallied-all}
+use Rattle.plan.proofs.LeaveLaws.{tallied-none, tallied-seen, tallied-step, tallied-all}
 use Rattle.plan.proofs.leave.leave_part.Goals as goal
 
 pub overflow_cast-n : goal.overflow_cast-n

@@ -1,9 +1,7 @@
-use Prim.Native.Nat.{◌-◌, ◌≤◌, ◌<◌}
-use mathlib.Core.Path.{◌≡◌, refl}
-use native.Mathlib.Omega.{arith}
+use Prim.Native.Nat.{◌-◌, ◌≤◌}
 use Rattle.rules.specs.Bytes.{resources_in}
 use Rattle.layer.specs.Make.{sets_only}
-use Rattle.plan.proofs.LeaveLaws.{Tallied, tallied-none, tallied-seen, tallied-step, tallied-all}
+use Rattle.plan.proofs.LeaveLaws.{Tallied}
 use Rattle.plan.proofs.leave.leave_part.Given as goal
 
 abbrev pub invariant-loop-r : goal.invariant-loop-r

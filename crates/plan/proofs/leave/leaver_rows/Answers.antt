@@ -1,8 +1,6 @@
 -- `plan::leave::leaver_rows` meets its contract. Assumes nothing.
 use mathlib.Core.Path.{sym, ap, ◌∙◌}
 use native.Mathlib.Omega.{arith}
-use borrow.Author.Rules.{rules}
-use borrow.Author.Tests.{not-true, not-false}
 use Rattle.sets.specs.Sets.{has, minus, single}
 use Rattle.rules.specs.Book.{Resource}
 use Rattle.theorems.specs.Plan.{new_vertices, new_tokens}

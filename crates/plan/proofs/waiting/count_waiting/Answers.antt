@@ -1,12 +1,11 @@
 -- `plan::waiting::count_waiting` meets its contract: k of the first i resources wait. Assumes nothing.
 use mathlib.Core.Path.{◌≡◌, ap, ◌∙◌}
 use mathlib.Core.Bool.{Bool}
-use mathlib.Core.Logic.{⊎_elim}
-use Prim.Native.Nat.{ℕ, ◌-◌, ◌≤◌}
+use Prim.Native.Nat.{ℕ}
 use native.Mathlib.Omega.{arith}
 use lib.ListN.{length}
 use Rattle.sets.specs.Words.{set_in}
-use Rattle.plan.proofs.WaitLaws.{below, below_none, count_yes, count_no, test, waiting, waiting-all}
+use Rattle.plan.proofs.WaitLaws.{below, below_none, count_yes, count_no, test, waiting-all}
 use Rattle.plan.proofs.waiting.count_waiting.Goals as goal
 use Rattle.plan.proofs.waiting.count_waiting.Goals.{then-waits, else-waits}
 
@@ -31,7 +30,7 @@ pub loop-i-preserved : goal.loop-i-preserved
 loop-i-preserved c =
     let test_at : ℕ → Bool = test c.args.n c.args.rs.now c.args.r.0 c.args.inner.0 (set_in c.args.list) in
     elim c.if-waits.branch [
-      then-waits w ↦ omega (arith, count_yes test_at c.loop-i.i c.waits.ensures w.if-waits.true)
+      | then-waits w ↦ omega (arith, count_yes test_at c.loop-i.i c.waits.ensures w.if-waits.true)
       | else-waits w ↦ omega (arith, count_no test_at c.loop-i.i c.waits.ensures w.if-waits.false)
     ]
 

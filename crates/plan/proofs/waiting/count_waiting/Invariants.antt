@@ -1,11 +1,8 @@
-use mathlib.Core.Path.{◌≡◌, ap, ◌∙◌}
-use mathlib.Core.Bool.{Bool}
-use mathlib.Core.Logic.{⊎_elim}
-use Prim.Native.Nat.{ℕ, ◌-◌, ◌≤◌}
-use native.Mathlib.Omega.{arith}
+use mathlib.Core.Path.{◌≡◌}
+use Prim.Native.Nat.{◌-◌, ◌≤◌}
 use lib.ListN.{length}
 use Rattle.sets.specs.Words.{set_in}
-use Rattle.plan.proofs.WaitLaws.{below, below_none, count_yes, count_no, test, waiting, waiting-all}
+use Rattle.plan.proofs.WaitLaws.{waiting}
 use Rattle.plan.proofs.waiting.count_waiting.Given as goal
 
 abbrev pub invariant-loop-i : goal.invariant-loop-i

@@ -2,7 +2,6 @@
 use borrow.Author.Tests.{not-true, not-false}
 use native.Mathlib.Omega.{arith}
 use Rattle.plan.proofs.WaitLaws.{waiting-full, waiting-held, waiting-some}
-use borrow.Author.Rules.{rules}
 use Rattle.plan.proofs.waiting.waiting.Goals as goal
 
 pub returns-then-h-ne1 : goal.returns-then-h-ne1

@@ -2,7 +2,6 @@
 use mathlib.Core.Path.{◌∙◌}
 use Rattle.layer.specs.Laid.{resource_is}
 use Rattle.plan.proofs.WaitLaws.{itself, same-vertex, other-vertex}
-use borrow.Author.Rules.{rules}
 use Rattle.plan.proofs.waiting.waits.Goals as goal
 
 pub returns-then-i-r : goal.returns-then-i-r

@@ -1,6 +1,5 @@
 -- `sets::Users::has` meets its contract. Assumes nothing.
 use mathlib.Core.Path.{refl}
-use borrow.Author.Rules.{rules}
 use Rattle.sets.proofs.Users.has.Goals as goal
 
 pub returns : goal.returns

@@ -1,5 +1,4 @@
 -- `sets::Users::inside` meets its contract. Assumes nothing.
-use borrow.Author.Rules.{rules}
 use mathlib.Core.Path.{sym, ap, ◌∙◌}
 use mathlib.Core.Bool.{and-true, and-false, ◌&&◌, not}
 use Rattle.sets.specs.Sets.{within}

@@ -1,5 +1,4 @@
 -- `sets::Users::with` meets its contract. Assumes nothing.
-use borrow.Author.Rules.{rules}
 use Rattle.sets.proofs.Users.with.Goals as goal
 
 pub returns : goal.returns

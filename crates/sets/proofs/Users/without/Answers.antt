@@ -1,5 +1,4 @@
 -- `sets::Users::without` meets its contract. Assumes nothing.
-use borrow.Author.Rules.{rules}
 use Rattle.sets.proofs.Users.without.Goals as goal
 
 pub returns : goal.returns

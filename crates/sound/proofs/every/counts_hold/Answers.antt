@@ -1,6 +1,5 @@
 -- `every::counts_hold` meets its contract. Assumes nothing.
 use mathlib.Core.Path.{◌∙◌}
-use borrow.Author.Rules.{rules}
 use borrow.Author.Tests.{lt-leb}
 use native.Mathlib.Omega.{arith}
 use Rattle.sound.proofs.Counted.{counts-hold, mode-past}

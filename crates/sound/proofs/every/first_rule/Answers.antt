@@ -1,6 +1,5 @@
 -- `every::first_rule` meets its contract: rule by rule; each is asked where those that it leans on hold.
 -- Assumes nothing.
-use borrow.Author.Rules.{rules}
 use Rattle.sound.proofs.Spots.{rule-on, rule-stop, rule_end}
 use Rattle.sound.proofs.RulePlaces.{s1-holds, s4-holds, whole}
 use Rattle.sound.proofs.every.first_rule.Goals as goal

@@ -1,6 +1,5 @@
 -- `every::lower` meets its contract. Assumes nothing.
 use native.Mathlib.Omega.{arith}
-use borrow.Author.Rules.{rules}
 use Rattle.sound.proofs.Spots.{lower_only, lower-second, lower-first}
 use Rattle.sound.proofs.every.lower.Goals as goal
 

@@ -1,6 +1,5 @@
 -- `every::missing` meets its contract. Assumes nothing.
 use mathlib.Core.Path.{sym, ap}
-use borrow.Author.Rules.{rules}
 use Rattle.sound.specs.Check.{missing_of}
 use Rattle.sound.proofs.every.missing.Goals as goal
 

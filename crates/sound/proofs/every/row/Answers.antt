@@ -1,6 +1,5 @@
 -- `every::row` meets its contract. Assumes nothing.
 use mathlib.Core.Path.{sym, ap}
-use borrow.Author.Rules.{rules}
 use Rattle.sound.specs.Check.{row_of}
 use Rattle.sound.proofs.every.row.Goals as goal
 

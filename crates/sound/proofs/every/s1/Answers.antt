@@ -1,6 +1,5 @@
 -- `every::s1` meets its contract: the leavers, and the searches in the order of the bytes.
 -- Assumes nothing.
-use borrow.Author.Rules.{rules}
 use mathlib.Core.Path.{refl, ap}
 use Rattle.layer.specs.declared.walk.Shape.{Shape}
 use Rattle.sound.proofs.Spots.{alone-on, alone-stop, search-on, search-stop, search-last}

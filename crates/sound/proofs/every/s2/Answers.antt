@@ -1,6 +1,5 @@
 -- `every::s2` meets its contract: the searches, the missing vertices first.
 -- Assumes nothing.
-use borrow.Author.Rules.{rules}
 use Rattle.sound.specs.declared.layers.Rule.TheVariants as rule
 use Rattle.sound.proofs.Spots.{search-on, search-stop, search-last}
 use Rattle.sound.proofs.RulePlaces.{empty-sought, own-told, empty-told, faults-told, s2-rest}

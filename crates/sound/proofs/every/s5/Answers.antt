@@ -1,6 +1,5 @@
 -- `every::s5` meets its contract: the inner layer, then the outer.
 -- Assumes nothing.
-use borrow.Author.Rules.{rules}
 use mathlib.Core.Path.{refl}
 use Rattle.sound.proofs.Spots.{search-on, search-stop, search-last}
 use Rattle.sound.proofs.RulePlaces.{united-told, s5-rest}

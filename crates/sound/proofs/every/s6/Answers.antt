@@ -1,6 +1,5 @@
 -- `every::s6` meets its contract: in the inner layer the lower of two searches' rows, then the outer.
 -- Assumes nothing.
-use borrow.Author.Rules.{rules}
 use Rattle.sound.proofs.Spots.{search-on, search-stop, search-last}
 use Rattle.sound.proofs.RulePlaces.{new-inner, new-outer, s6-rest}
 use Rattle.sound.proofs.Required.{inner-held, outer-held, inner-laid, inner-few, outer-few, inner-ends, outer-ends, ends-among}

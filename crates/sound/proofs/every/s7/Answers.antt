@@ -1,6 +1,5 @@
 -- `every::s7` meets its contract: one search.
 -- Assumes nothing.
-use borrow.Author.Rules.{rules}
 use Rattle.sound.proofs.RulePlaces.{s7-told}
 use Rattle.sound.proofs.Required.{inner-vertices, inner-laid, inner-few}
 use Rattle.sound.proofs.every.s7.Goals as goal

@@ -1,6 +1,5 @@
 -- `every::s8` meets its contract: one search.
 -- Assumes nothing.
-use borrow.Author.Rules.{rules}
 use Rattle.sound.proofs.RulePlaces.{s8-told}
 use Rattle.sound.proofs.Required.{inner-vertices, outer-vertices, inner-laid, inner-few}
 use Rattle.sound.proofs.every.s8.Goals as goal

@@ -1,15 +1,11 @@
 -- `sound::layers::equal_set` meets its contract. The loop's invariant: no two of the vertices passed have equal sets, and the marks of their sets are
 -- set. Assumes nothing.
 use mathlib.Core.Path.{◌∙◌}
-use mathlib.Core.Logic.{⊎_elim}
-use Prim.Native.Nat.{◌-◌}
 use native.Mathlib.Omega.{arith}
-use borrow.Author.Rules.{rules}
-use Rattle.rules.specs.Bytes.{sets_in}
 use Rattle.layer.proofs.Read.{length-sets}
 use Rattle.layer.proofs.Search.{row-over, number-here}
 use Rattle.sound.proofs.FaultLaws.{repeated-before, set_found, set-missing}
-use Rattle.sound.proofs.Seen.{Distinct, distinct_none, set_new, distinct-on}
+use Rattle.sound.proofs.Seen.{distinct_none, set_new, distinct-on}
 use Rattle.sound.proofs.layers.equal_set.Goals as goal
 use Rattle.sound.proofs.layers.equal_set.Goals.{then-mark+in-Nothing, else-mark}
 
@@ -43,7 +39,7 @@ loop-i-preserved c =
     let b = c.mark.ensures in
     distinct-on _ _ (length-sets _ _) c.loop-i.invariant (omega arith) e k b.value
     (elim c.if-mark.branch [
-      then-mark+in-Nothing w ↦ repeated-before _ _ _ (omega arith) ∙ set-missing _ _ e w.find_set-found.ensures w.in-Nothing.is
+      | then-mark+in-Nothing w ↦ repeated-before _ _ _ (omega arith) ∙ set-missing _ _ e w.find_set-found.ensures w.in-Nothing.is
       | else-mark w ↦ set_new _ _ (length-sets _ _) c.loop-i.invariant (omega arith) e k b.value w.if-mark.false
     ])
     b.marks_after

@@ -1,13 +1,6 @@
-use mathlib.Core.Path.{◌∙◌}
-use mathlib.Core.Logic.{⊎_elim}
 use Prim.Native.Nat.{◌-◌}
-use native.Mathlib.Omega.{arith}
-use borrow.Author.Rules.{rules}
 use Rattle.rules.specs.Bytes.{sets_in}
-use Rattle.layer.proofs.Read.{length-sets}
-use Rattle.layer.proofs.Search.{row-over, number-here}
-use Rattle.sound.proofs.FaultLaws.{repeated-before, set_found, set-missing}
-use Rattle.sound.proofs.Seen.{Distinct, distinct_none, set_new, distinct-on}
+use Rattle.sound.proofs.Seen.{Distinct}
 use Rattle.sound.proofs.layers.equal_set.Given as goal
 
 abbrev pub invariant-loop-i : goal.invariant-loop-i

@@ -1,15 +1,13 @@
 -- `sound::layers::equal_token` meets its contract. The loop's invariant: no two of the tokens passed have the same ends, and the marks of their ends are
 -- set. Assumes nothing.
-use Prim.Native.Nat.{◌+◌, ◌-◌, ◌*◌, ◌<◌}
+use Prim.Native.Nat.{◌+◌, ◌*◌, ◌<◌}
 use mathlib.Core.Path.{refl}
 use native.Mathlib.Omega.{arith}
-use borrow.Author.Rules.{rules}
-use Rattle.rules.specs.Bytes.{tokens_in}
 use Rattle.layer.specs.Laid.{max_vertices}
 use Rattle.layer.proofs.Read.{length-tokens}
 use Rattle.layer.proofs.Search.{row-over}
 use Rattle.sound.proofs.Reading.{row-mem}
-use Rattle.sound.proofs.Seen.{Apart, apart_none, apart-here, apart-on}
+use Rattle.sound.proofs.Seen.{apart_none, apart-here, apart-on}
 use Rattle.sound.proofs.layers.equal_token.Goals as goal
 
 pub loop-i-init : goal.loop-i-init

@@ -1,13 +1,6 @@
-use Prim.Native.Nat.{◌+◌, ◌-◌, ◌*◌, ◌<◌}
-use mathlib.Core.Path.{refl}
-use native.Mathlib.Omega.{arith}
-use borrow.Author.Rules.{rules}
+use Prim.Native.Nat.{◌-◌}
 use Rattle.rules.specs.Bytes.{tokens_in}
-use Rattle.layer.specs.Laid.{max_vertices}
-use Rattle.layer.proofs.Read.{length-tokens}
-use Rattle.layer.proofs.Search.{row-over}
-use Rattle.sound.proofs.Reading.{row-mem}
-use Rattle.sound.proofs.Seen.{Apart, apart_none, apart-here, apart-on}
+use Rattle.sound.proofs.Seen.{Apart}
 use Rattle.sound.proofs.layers.equal_token.Given as goal
 
 abbrev pub invariant-loop-i : goal.invariant-loop-i

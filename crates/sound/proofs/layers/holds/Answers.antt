@@ -1,5 +1,4 @@
 -- `sound::layers::holds` meets its contract. Assumes nothing.
-use borrow.Author.Rules.{rules}
 use borrow.Author.Tests.{eq-eqb, ne_eqb}
 use Rattle.sets.specs.Words.{set_in}
 use Rattle.sound.proofs.FaultLaws.{rises, from_empty}

@@ -1,14 +1,11 @@
 -- `sound::layers::owners` meets its contract. The loop's invariant: `own` names the users who have one of the first i sets for themselves. Assumes nothing.
-use Prim.Native.Nat.{◌-◌, ◌≤◌, ◌<◌}
+use Prim.Native.Nat.{◌≤◌, ◌<◌}
 use mathlib.Core.Path.{ap, ◌∙◌}
 use native.Mathlib.Omega.{arith}
-use mathlib.Core.Logic.{⊎_elim}
-use lib.ListN.{length, take}
-use borrow.Author.Rules.{rules}
+use lib.ListN.{length}
 use Rattle.sets.specs.Words.{set_in}
 use Rattle.rules.specs.Bytes.{sets_in}
 use Rattle.layer.proofs.Read.{length-sets}
-use Rattle.sound.specs.Faults.{Owners}
 use Rattle.sound.proofs.FaultLaws.{owners-none, owners-all, owners-own, owners-group}
 use Rattle.sound.proofs.layers.owners.Goals as goal
 use Rattle.sound.proofs.layers.owners.Goals.{then-size-eq1, else-size-eq1}
@@ -32,7 +29,7 @@ loop-i-preserved c =
     let l = there in (
       omega arith,
       elim c.if-size-eq1.branch [
-        then-size-eq1 w ↦ owners-own _ h l c.set_of-s.ensures c.size.ensures.value w.if-size-eq1.true (ap set_in w.own-is ∙ w.union-own.ensures)
+        | then-size-eq1 w ↦ owners-own _ h l c.set_of-s.ensures c.size.ensures.value w.if-size-eq1.true (ap set_in w.own-is ∙ w.union-own.ensures)
         | else-size-eq1 w ↦ owners-group _ h l c.set_of-s.ensures c.size.ensures.value w.if-size-eq1.false (ap set_in w.own-is)
       ],
     )

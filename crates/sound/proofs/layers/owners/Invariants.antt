@@ -1,14 +1,8 @@
-use Prim.Native.Nat.{◌-◌, ◌≤◌, ◌<◌}
-use mathlib.Core.Path.{ap, ◌∙◌}
-use native.Mathlib.Omega.{arith}
-use mathlib.Core.Logic.{⊎_elim}
-use lib.ListN.{length, take}
-use borrow.Author.Rules.{rules}
+use Prim.Native.Nat.{◌-◌, ◌≤◌}
+use lib.ListN.{take}
 use Rattle.sets.specs.Words.{set_in}
 use Rattle.rules.specs.Bytes.{sets_in}
-use Rattle.layer.proofs.Read.{length-sets}
 use Rattle.sound.specs.Faults.{Owners}
-use Rattle.sound.proofs.FaultLaws.{owners-none, owners-all, owners-own, owners-group}
 use Rattle.sound.proofs.layers.owners.Given as goal
 
 abbrev pub invariant-loop-i : goal.invariant-loop-i

@@ -1,11 +1,7 @@
 -- `sound::layers::ownless` meets its contract. The loop's invariant: the users passed have a vertex of their own. Assumes nothing.
 use mathlib.Core.Bool.{not}
-use Prim.Native.Nat.{◌-◌}
 use native.Mathlib.Omega.{arith}
-use Rattle.rules.specs.Lists.{up_to}
-use Rattle.rules.specs.Bytes.{sets_in}
-use Rattle.layer.proofs.Search.{Passed, row-over, number-here, number-on}
-use Rattle.sound.specs.Faults.{has_own_in}
+use Rattle.layer.proofs.Search.{row-over, number-here, number-on}
 use Rattle.sound.proofs.FaultLaws.{owner-told}
 use mathlib.Core.Path.{ap}
 use Rattle.sound.proofs.layers.ownless.Goals as goal

@@ -1,11 +1,9 @@
 use mathlib.Core.Bool.{not}
 use Prim.Native.Nat.{◌-◌}
-use native.Mathlib.Omega.{arith}
 use Rattle.rules.specs.Lists.{up_to}
 use Rattle.rules.specs.Bytes.{sets_in}
-use Rattle.layer.proofs.Search.{Passed, row-over, number-here, number-on}
+use Rattle.layer.proofs.Search.{Passed}
 use Rattle.sound.specs.Faults.{has_own_in}
-use Rattle.sound.proofs.FaultLaws.{owner-told}
 use Rattle.sound.proofs.layers.ownless.Given as goal
 
 abbrev pub invariant-loop-u : goal.invariant-loop-u

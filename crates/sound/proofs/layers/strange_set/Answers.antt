@@ -1,12 +1,10 @@
 -- `sound::layers::strange_set` meets its contract. The loop's invariant: the sets passed name joined users only. Assumes nothing.
 use mathlib.Core.Path.{ap}
 use mathlib.Core.Bool.{not}
-use Prim.Native.Nat.{◌-◌}
 use native.Mathlib.Omega.{arith}
-use Rattle.rules.specs.Bytes.{sets_in}
 use Rattle.rules.specs.Sound.{joined_set}
 use Rattle.layer.proofs.Read.{length-sets}
-use Rattle.layer.proofs.Search.{Passed, row_here, row_on, row-over}
+use Rattle.layer.proofs.Search.{row_here, row_on, row-over}
 use Rattle.sound.proofs.layers.strange_set.Goals as goal
 
 pub loop-i-init : goal.loop-i-init

@@ -1,11 +1,8 @@
-use mathlib.Core.Path.{ap}
 use mathlib.Core.Bool.{not}
 use Prim.Native.Nat.{◌-◌}
-use native.Mathlib.Omega.{arith}
 use Rattle.rules.specs.Bytes.{sets_in}
 use Rattle.rules.specs.Sound.{joined_set}
-use Rattle.layer.proofs.Read.{length-sets}
-use Rattle.layer.proofs.Search.{Passed, row_here, row_on, row-over}
+use Rattle.layer.proofs.Search.{Passed}
 use Rattle.sound.proofs.layers.strange_set.Given as goal
 
 abbrev pub invariant-loop-i : goal.invariant-loop-i

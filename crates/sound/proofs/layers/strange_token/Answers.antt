@@ -1,15 +1,10 @@
 -- `sound::layers::strange_token` meets its contract. The loop's invariant: the tokens passed are of a kind and between vertices that there are. Assumes nothing.
 use mathlib.Core.Path.{refl}
-use mathlib.Core.Bool.{not}
-use mathlib.Core.Logic.{⊎_elim}
-use Prim.Native.Nat.{◌-◌}
 use native.Mathlib.Omega.{arith}
-use borrow.Author.Tests.{le-ltb, lt-ltb, le-leb, lt-leb, leb-true, leb-false}
+use borrow.Author.Tests.{le-ltb, lt-ltb, le-leb, lt-leb}
 use Rattle.rules.specs.Layer.{token}
-use Rattle.rules.specs.Bytes.{tokens_in}
 use Rattle.layer.proofs.Read.{length-tokens}
-use Rattle.layer.proofs.Search.{Passed, row_here, row_on, row-over}
-use Rattle.sound.specs.Faults.{placed_in}
+use Rattle.layer.proofs.Search.{row_here, row_on, row-over}
 use Rattle.sound.proofs.layers.strange_token.Goals as goal
 use Rattle.sound.proofs.layers.strange_token.Goals.{then-t-gt1-via-then-t-gt1, then-t-gt1-via-else-t-gt1+then-t-vertices, then-t-gt1-via-else-t-gt1+else-t-vertices+then-t-vertices-2}
 
@@ -32,7 +27,7 @@ returns-then-t-gt1 c =
     let n = c.args.vertices in
     row_here _ _ _ (token 0 0 0) c.loop-i.invariant (omega arith) c.token_in-t.ensures refl
     (elim c.then-t-gt1.branch [
-      then-t-gt1-via-then-t-gt1 w ↦ rw (lt-leb _ _ w.if-t-gt1.true)
+      | then-t-gt1-via-then-t-gt1 w ↦ rw (lt-leb _ _ w.if-t-gt1.true)
       | then-t-gt1-via-else-t-gt1+then-t-vertices w ↦ rw (le-leb _ _ w.if-t-gt1.false, le-ltb from n w.if-t-vertices.true)
       | then-t-gt1-via-else-t-gt1+else-t-vertices+then-t-vertices-2 w ↦ rw (le-leb _ _ w.if-t-gt1.false, lt-ltb from n w.if-t-vertices.false, le-ltb to n w.if-t-vertices-2.true)
     ])

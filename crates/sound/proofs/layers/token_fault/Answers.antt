@@ -1,15 +1,12 @@
 -- `sound::layers::token_fault` meets its contract. The loop's invariant: the tokens passed keep the rule. Assumes nothing.
 use mathlib.Core.Path.{◌≡◌, ap}
 use mathlib.Core.Bool.{not}
-use Prim.Native.Nat.{◌-◌}
 use native.Mathlib.Omega.{arith}
-use borrow.Author.Rules.{rules}
 use Rattle.rules.specs.Layer.{token, set_of}
 use Rattle.rules.specs.Open.{token_at}
-use Rattle.rules.specs.Bytes.{tokens_in}
 use Rattle.layer.specs.Laid.{layer_of}
 use Rattle.layer.proofs.Read.{length-tokens}
-use Rattle.layer.proofs.Search.{Passed, row_here, row_on, row-over}
+use Rattle.layer.proofs.Search.{row_here, row_on, row-over}
 use Rattle.sound.specs.Faults.{keeps}
 use Rattle.sound.proofs.FaultLaws.{keeps-read}
 use Rattle.sound.proofs.layers.token_fault.Goals as goal

@@ -1,6 +1,5 @@
 -- `sound::layers::united` meets its contract. Assumes nothing.
 use mathlib.Core.Bool.{or-true, or-false}
-use borrow.Author.Rules.{rules}
 use Rattle.sound.proofs.layers.united.Goals as goal
 
 pub returns-then-same : goal.returns-then-same

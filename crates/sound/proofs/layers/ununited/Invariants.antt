@@ -1,17 +1,10 @@
-use Prim.Native.Nat.{◌-◌, ◌<◌}
-use mathlib.Core.Path.{◌≡◌, ◌∙◌}
+use Prim.Native.Nat.{◌-◌}
 use mathlib.Core.Bool.{not}
-use native.Mathlib.Omega.{arith}
-use borrow.Author.Rules.{rules}
 use Rattle.rules.specs.Lists.{numbered}
-use Rattle.rules.specs.Layer.{set_of}
 use Rattle.rules.specs.Bytes.{sets_in}
 use Rattle.rules.specs.Sound.{united_vertex}
-use Rattle.layer.specs.Laid.{layer_of, max_vertices}
-use Rattle.theorems.proofs.ListLaws.{length-numbered}
-use Rattle.layer.proofs.Search.{Passed, row_here, row_on, row-over}
-use Rattle.layer.proofs.Read.{length-sets}
-use Rattle.sound.proofs.United.{vertex-at, united-row}
+use Rattle.layer.specs.Laid.{layer_of}
+use Rattle.layer.proofs.Search.{Passed}
 use Rattle.sound.proofs.layers.ununited.Given as goal
 
 abbrev pub invariant-loop-v : goal.invariant-loop-v

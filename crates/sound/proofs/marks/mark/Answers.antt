@@ -6,7 +6,6 @@ use native.Mathlib.Omega.{arith}
 use lib.Dec.{lit<}
 use lib.ListN.{get_or}
 use lib.Pow.{shl_exact}
-use borrow.Author.Rules.{rules}
 use Rattle.sets.specs.Sets.{union}
 use Rattle.sound.specs.Marks.{marked}
 use Rattle.sound.proofs.Seen.{with-mark}

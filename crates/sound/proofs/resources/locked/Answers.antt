@@ -1,10 +1,8 @@
 -- `sound::resources::locked` meets its contract. Assumes nothing.
 use mathlib.Core.Path.{◌≡◌, sym, ap, ◌∙◌}
 use mathlib.Core.Bool.{Bool, true, false, ◌&&◌, and-false, not-not}
-use mathlib.Core.Logic.{⊎_elim}
 use lib.Dec.{eqb}
-use borrow.Author.Rules.{rules}
-use borrow.Author.Tests.{eq-eqb, ne_eqb, eqb-false}
+use borrow.Author.Tests.{eq-eqb, ne_eqb}
 use Rattle.sets.specs.Words.{set_in}
 use Rattle.rules.specs.Book.{has_outer}
 use Rattle.sound.proofs.resources.locked.Goals as goal
@@ -21,7 +19,7 @@ unfolding has_outer
 returns-then-none c =
     let bound : let a = c.args in (eqb a.mode 1 && eqb (set_in a.holders) (set_in a.x.list)) ≡ false = let delta = eqb c.args.mode 1 in
     elim c.else-mode-eq1.branch [
-      else-mode-eq1-via-then-mode-eq1+else-same w ↦ ap (λ (b : Bool). delta && b) (sym w.same.ensures ∙ w.if-same.false) ∙ and-false delta
+      | else-mode-eq1-via-then-mode-eq1+else-same w ↦ ap (λ (b : Bool). delta && b) (sym w.same.ensures ∙ w.if-same.false) ∙ and-false delta
       | else-mode-eq1-via-else-mode-eq1 w ↦ rw (ne_eqb _ _ w.if-mode-eq1.false)
     ] in
     rw (bound, c.if-none.true)
@@ -35,7 +33,7 @@ unfolding has_outer
 returns c =
     let bound : let a = c.args in (eqb a.mode 1 && eqb (set_in a.holders) (set_in a.x.list)) ≡ false = let delta = eqb c.args.mode 1 in
     elim c.else-mode-eq1.branch [
-      else-mode-eq1-via-then-mode-eq1+else-same w ↦ ap (λ (b : Bool). delta && b) (sym w.same.ensures ∙ w.if-same.false) ∙ and-false delta
+      | else-mode-eq1-via-then-mode-eq1+else-same w ↦ ap (λ (b : Bool). delta && b) (sym w.same.ensures ∙ w.if-same.false) ∙ and-false delta
       | else-mode-eq1-via-else-mode-eq1 w ↦ rw (ne_eqb _ _ w.if-mode-eq1.false)
     ] in
     c.same-2.ensures ∙ rw (bound, ne_eqb _ _ c.if-none.false, c.set_of.ensures)

@@ -1,11 +1,8 @@
 use Prim.Native.Nat.{◌-◌}
-use mathlib.Core.Path.{ap}
 use mathlib.Core.Bool.{not}
-use native.Mathlib.Omega.{arith}
 use Rattle.sets.specs.Words.{set_in}
 use Rattle.rules.specs.Bytes.{resources_in}
-use Rattle.layer.proofs.Search.{Passed, row_here, row_on, row-over}
-use Rattle.layer.proofs.Read.{length-resources}
+use Rattle.layer.proofs.Search.{Passed}
 use Rattle.sound.specs.Faults.{placed_at}
 use Rattle.sound.proofs.resources.misplaced.Given as goal
 

@@ -1,8 +1,7 @@
 -- `sound::resources::placed` meets its contract: one test after the other. Assumes nothing.
 use mathlib.Core.Path.{sym, ◌∙◌}
 use mathlib.Core.Bool.{and-true, and-false}
-use borrow.Author.Rules.{rules}
-use borrow.Author.Tests.{not-true, not-false, eq-eqb, ne_eqb, lt-ltb, le-ltb}
+use borrow.Author.Tests.{eq-eqb, ne_eqb, lt-ltb, le-ltb}
 use Rattle.rules.specs.Book.{has_outer}
 use Rattle.rules.specs.Sound.{joined_set}
 use Rattle.sound.proofs.resources.placed.Goals as goal

@@ -1,5 +1,5 @@
 -- `sound::resources::unheld` meets its contract. The loop's invariant: the resources before i keep S7. Assumes nothing.
-use Prim.Native.Nat.{◌-◌, ◌<◌}
+use Prim.Native.Nat.{◌<◌}
 use mathlib.Core.Path.{◌≡◌, ap}
 use mathlib.Core.Bool.{not}
 use native.Mathlib.Omega.{arith}
@@ -7,9 +7,8 @@ use Rattle.sets.specs.Sets.{within}
 use Rattle.sets.specs.Words.{set_in}
 use Rattle.rules.specs.Layer.{set_of}
 use Rattle.rules.specs.Holders.{by_token, holders}
-use Rattle.rules.specs.Bytes.{resources_in}
 use Rattle.layer.specs.Laid.{layer_of, max_vertices, resource_is}
-use Rattle.layer.proofs.Search.{Passed, row_here, row_on, row-over}
+use Rattle.layer.proofs.Search.{row_here, row_on, row-over}
 use Rattle.layer.proofs.Read.{length-resources}
 use Rattle.sound.proofs.Reading.{row-mem, by-holders}
 use Rattle.sound.proofs.resources.unheld.Goals as goal

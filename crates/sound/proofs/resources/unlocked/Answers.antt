@@ -1,13 +1,13 @@
 -- `sound::resources::unlocked` meets its contract. The loop's invariant: the resources before i keep S8. Assumes nothing.
-use Prim.Native.Nat.{◌-◌, ◌<◌}
+use Prim.Native.Nat.{◌<◌}
 use mathlib.Core.Path.{◌≡◌, ap}
 use mathlib.Core.Bool.{not}
 use native.Mathlib.Omega.{arith}
 use Rattle.rules.specs.Layer.{set_of}
 use Rattle.rules.specs.Holders.{by_token, holders}
-use Rattle.rules.specs.Bytes.{sets_in, resources_in}
+use Rattle.rules.specs.Bytes.{sets_in}
 use Rattle.layer.specs.Laid.{layer_of, max_vertices, resource_is}
-use Rattle.layer.proofs.Search.{Passed, row_here, row_on, row-over}
+use Rattle.layer.proofs.Search.{row_here, row_on, row-over}
 use Rattle.layer.proofs.Read.{length-resources}
 use Rattle.sound.specs.Faults.{locked_by}
 use Rattle.sound.proofs.Reading.{row-mem, by-holders}

@@ -1,15 +1,10 @@
-use Prim.Native.Nat.{◌-◌, ◌<◌}
-use mathlib.Core.Path.{◌≡◌, ap}
+use Prim.Native.Nat.{◌-◌}
 use mathlib.Core.Bool.{not}
-use native.Mathlib.Omega.{arith}
-use Rattle.rules.specs.Layer.{set_of}
-use Rattle.rules.specs.Holders.{by_token, holders}
+use Rattle.rules.specs.Holders.{holders}
 use Rattle.rules.specs.Bytes.{sets_in, resources_in}
-use Rattle.layer.specs.Laid.{layer_of, max_vertices, resource_is}
-use Rattle.layer.proofs.Search.{Passed, row_here, row_on, row-over}
-use Rattle.layer.proofs.Read.{length-resources}
+use Rattle.layer.specs.Laid.{layer_of}
+use Rattle.layer.proofs.Search.{Passed}
 use Rattle.sound.specs.Faults.{locked_by}
-use Rattle.sound.proofs.Reading.{row-mem, by-holders}
 use Rattle.sound.proofs.resources.unlocked.Given as goal
 
 abbrev pub invariant-loop-i : goal.invariant-loop-i
