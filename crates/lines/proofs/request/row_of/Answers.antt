@@ -20,8 +20,7 @@ returns-in-5 c = c.exactly-in-5.ensures ∙ rw c.in-5.is
 
 pub returns-in-2 : goal.returns-in-2
 returns-in-2 c =
-    let other = c.in_default-1.rest in
-    c.exactly-in-2.ensures ∙ row-pair _ _ (omega (arith, other.0.1, other.0.0.1)) c.if-kind-lt5.true
+    c.exactly-in-2.ensures ∙ row-pair _ _ (omega arith) (omega arith)
 
 pub returns-in_default : goal.returns-in_default
-returns-in_default c = sym (no_word _ _ (omega (arith, c.in_default-1.rest.1, c.if-kind-lt5.false)))
+returns-in_default c = sym (no_word _ _ (omega arith))
