@@ -1,11 +1,9 @@
 -- `book::copy` meets its contract. The invariant: the bytes passed are those of `from`, and the rest are as they were. Assumes nothing.
-use Prim.Native.Nat.{◌≤◌, ◌-◌}
 use mathlib.Core.Path.{◌≡◌, refl, ◌∙◌}
-use mathlib.Core.List.{◌++◌}
 use native.Mathlib.Nat.{zero-add}
 use native.Mathlib.Numerals.{add-one}
 use native.Mathlib.Omega.{arith}
-use lib.ListN.{length, take, drop, length-append, length-take, length-drop}
+use lib.ListN.{length, length-append, length-take, length-drop}
 use lib.Seq.{paste-suc, take-length}
 use Rattle.rows.specs.Number.{stored}
 use Rattle.book.proofs.copy.Goals as goal

@@ -1,12 +1,7 @@
 use Prim.Native.Nat.{◌≤◌, ◌-◌}
-use mathlib.Core.Path.{◌≡◌, refl, ◌∙◌}
+use mathlib.Core.Path.{◌≡◌}
 use mathlib.Core.List.{◌++◌}
-use native.Mathlib.Nat.{zero-add}
-use native.Mathlib.Numerals.{add-one}
-use native.Mathlib.Omega.{arith}
-use lib.ListN.{length, take, drop, length-append, length-take, length-drop}
-use lib.Seq.{paste-suc, take-length}
-use Rattle.rows.specs.Number.{stored}
+use lib.ListN.{length, take, drop}
 use Rattle.book.proofs.copy.Given as goal
 
 abbrev pub invariant-loop-i : goal.invariant-loop-i

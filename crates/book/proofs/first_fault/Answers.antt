@@ -2,12 +2,9 @@
 use Prim.Native.Nat.{◌≤◌}
 use mathlib.Core.Path.{◌≡◌, sym, ap, ◌∙◌}
 use mathlib.Core.Bool.{true}
-use mathlib.Core.Logic.{⊎_elim}
 use mathlib.Core.Option.{none}
 use native.Mathlib.Omega.{arith}
 use lib.ListN.{length}
-use borrow.Author.Rules.{rules}
-use borrow.Author.Tests.{eqb-true, eqb-false, not-true, not-false}
 use Rattle.rows.specs.Number.{cell}
 use Rattle.rules.specs.Bytes.{version_in, head_in, bad_count, Bytes, known}
 use Rattle.sound.proofs.Answers.{yes}
@@ -18,10 +15,7 @@ use Rattle.book.proofs.Laws.{count_left, whole-exact}
 use Rattle.book.proofs.Answers.{no, mark-is, marked, mode-read, count-found, count_none, front-there, start-header, judgeable, by-rules}
 use mathlib.Core.Bool.{not}
 use Rattle.book.proofs.first_fault.Goals as goal
-
--- TODO array-read-at
--- array-read-at : tie.Need-array-read-at
--- array-read-at c = (count-found _ (counted c).bad-count.ensures c.before.c.given.1).0
+use Rattle.book.proofs.first_fault.Goals.{then-bytes-ne84-via-then-bytes-ne84, then-bytes-ne84-via-else-bytes-ne84+then-bytes-ne75, then-bytes-ne84-via-else-bytes-ne84+else-bytes-ne75+then-bytes-ne66}
 
 -- ---- the needs
 pub returns-then-bytes-lt-HEADER : goal.returns-then-bytes-lt-HEADER
@@ -38,21 +32,22 @@ returns-then-bytes-ne84 c =
     (fault-mark bs long
     (λ m.
     let is = marked bs byte (omega arith) m in
-    ⊎_elim
-    (λ w. w.taken is.0)
-    (⊎_elim (λ w. eqb-false _ _ (not-true _ w.2.taken) is.1) (λ w. eqb-false _ _ (not-true _ w.4.taken) is.2))
-    c.then-bytes-ne84.branch)))
+    elim c.then-bytes-ne84.branch [
+      | then-bytes-ne84-via-then-bytes-ne84 w ↦ w.if-bytes-ne84.true is.0
+      | then-bytes-ne84-via-else-bytes-ne84+then-bytes-ne75 w ↦ w.if-bytes-ne75.true is.1
+      | then-bytes-ne84-via-else-bytes-ne84+else-bytes-ne75+then-bytes-ne66 w ↦ w.if-bytes-ne66.true is.2
+    ])))
 
 pub returns-then-not-known : goal.returns-then-not-known
 returns-then-not-known c =
     let long : 17 ≤ length c.args.bytes.now = c.if-bytes-lt-HEADER.false in
-    let mark : cell 3 0 c.args.bytes.now ≡ 0x424B54 = mark-is _ (omega (arith, long)) c.if-bytes-ne84.false (eqb-true _ _ (not-false _ c.if-bytes-ne75.false)) (eqb-true _ _ (not-false _ c.if-bytes-ne66.false)) in
+    let mark : cell 3 0 c.args.bytes.now ≡ 0x424B54 = mark-is _ (omega (arith, long)) c.if-bytes-ne84.false c.if-bytes-ne75.false c.if-bytes-ne66.false in
     ap wrong_is (sym (fault-version _ long mark (ap known (sym c.version_in-version.ensures) ∙ no c.known.ensures (ap not c.if-not-known.true))))
 
 pub returns-then-h-gt1 : goal.returns-then-h-gt1
 returns-then-h-gt1 c =
     let long : 17 ≤ length c.args.bytes.now = c.if-bytes-lt-HEADER.false in
-    let mark : cell 3 0 c.args.bytes.now ≡ 0x424B54 = mark-is _ (omega (arith, long)) c.if-bytes-ne84.false (eqb-true _ _ (not-false _ c.if-bytes-ne75.false)) (eqb-true _ _ (not-false _ c.if-bytes-ne66.false)) in
+    let mark : cell 3 0 c.args.bytes.now ≡ 0x424B54 = mark-is _ (omega (arith, long)) c.if-bytes-ne84.false c.if-bytes-ne75.false c.if-bytes-ne66.false in
     let version : known (version_in c.args.bytes.now) ≡ true = ap known (sym c.version_in-version.ensures) ∙ yes c.known.ensures (ap not c.if-not-known.false) in
     ap wrong_is (sym (fault-mode _ long mark version (omega (arith, c.if-h-gt1.true, mode-read _ _ c.header_in-h.ensures))))
 
@@ -62,7 +57,7 @@ offset_bounds-i c = omega (arith, count-found _ c.bad_count-c.ensures c.in-At.is
 pub returns-in-At : goal.returns-in-At
 returns-in-At c =
     let long : 17 ≤ length c.args.bytes.now = c.if-bytes-lt-HEADER.false in
-    let mark : cell 3 0 c.args.bytes.now ≡ 0x424B54 = mark-is _ (omega (arith, long)) c.if-bytes-ne84.false (eqb-true _ _ (not-false _ c.if-bytes-ne75.false)) (eqb-true _ _ (not-false _ c.if-bytes-ne66.false)) in
+    let mark : cell 3 0 c.args.bytes.now ≡ 0x424B54 = mark-is _ (omega (arith, long)) c.if-bytes-ne84.false c.if-bytes-ne75.false c.if-bytes-ne66.false in
     let version : known (version_in c.args.bytes.now) ≡ true = ap known (sym c.version_in-version.ensures) ∙ yes c.known.ensures (ap not c.if-not-known.false) in
     let mode : cell 1 5 c.args.bytes.now ≤ 1 = omega (arith, c.if-h-gt1.false, mode-read _ _ c.header_in-h.ensures) in
     let count = (count-found _ c.bad_count-c.ensures c.in-At.is).1 in
@@ -71,33 +66,33 @@ returns-in-At c =
 pub returns-then-bytes-start_of : goal.returns-then-bytes-start_of
 returns-then-bytes-start_of c =
     let long : 17 ≤ length c.args.bytes.now = c.if-bytes-lt-HEADER.false in
-    let mark : cell 3 0 c.args.bytes.now ≡ 0x424B54 = mark-is _ (omega (arith, long)) c.if-bytes-ne84.false (eqb-true _ _ (not-false _ c.if-bytes-ne75.false)) (eqb-true _ _ (not-false _ c.if-bytes-ne66.false)) in
+    let mark : cell 3 0 c.args.bytes.now ≡ 0x424B54 = mark-is _ (omega (arith, long)) c.if-bytes-ne84.false c.if-bytes-ne75.false c.if-bytes-ne66.false in
     let version : known (version_in c.args.bytes.now) ≡ true = ap known (sym c.version_in-version.ensures) ∙ yes c.known.ensures (ap not c.if-not-known.false) in
     let mode : cell 1 5 c.args.bytes.now ≤ 1 = omega (arith, c.if-h-gt1.false, mode-read _ _ c.header_in-h.ensures) in
     let none-past : bad_count (head_in c.args.bytes.now) ≡ none = sym (ap bad_count c.header_in-h.ensures ∙ count_left _ _) ∙ count_none _ c.bad_count-c.ensures c.in-Nothing.is in
     ap wrong_is
     (sym
     (fault-length _ long mark version mode none-past
-    (λ x. c.if-bytes-start_of.true (x ∙ sym (start-header _ _ 5 c.start_of_lem.ensures c.version_in-version.ensures c.header_in-h.ensures)))))
+    (λ x. c.if-bytes-start_of.true (x ∙ sym (start-header _ _ 5 c.start_of.ensures c.version_in-version.ensures c.header_in-h.ensures)))))
 
 pub head_in-requires : goal.head_in-requires
 head_in-requires c =
-    front-there _ c.header_in-h.result c.version_in-version.ensures (omega (arith, c.if-bytes-start_of, c.start_of_lem.ensures))
+    front-there _ c.header_in-h.result c.version_in-version.ensures (omega (arith, c.if-bytes-start_of, c.start_of.ensures))
 
 pub rule_fault-requires : goal.rule_fault-requires
 rule_fault-requires c =
-    let judged-next : Judgeable c.args.bytes.now c.version_in-version.result c.head_in.result = judgeable _ _ _ _ _ c.version_in-version.ensures c.header_in-h.ensures c.head_in.ensures c.if-h-gt1.left
-    c.bad_count-c.ensures c.in-Nothing.is (omega (arith, c.if-bytes-start_of, c.start_of_lem.ensures)) in
+    let judged-next : Judgeable c.args.bytes.now c.version_in-version.result c.head_in.result = judgeable _ _ _ _ _ c.version_in-version.ensures c.header_in-h.ensures c.head_in.ensures c.if-h-gt1.false
+    c.bad_count-c.ensures c.in-Nothing.is (omega (arith, c.if-bytes-start_of, c.start_of.ensures)) in
     judged-next
 
 pub returns : goal.returns
 returns c =
     let long : 17 ≤ length c.args.bytes.now = c.if-bytes-lt-HEADER.false in
-    let mark : cell 3 0 c.args.bytes.now ≡ 0x424B54 = mark-is _ (omega (arith, long)) c.if-bytes-ne84.false (eqb-true _ _ (not-false _ c.if-bytes-ne75.false)) (eqb-true _ _ (not-false _ c.if-bytes-ne66.false)) in
+    let mark : cell 3 0 c.args.bytes.now ≡ 0x424B54 = mark-is _ (omega (arith, long)) c.if-bytes-ne84.false c.if-bytes-ne75.false c.if-bytes-ne66.false in
     let version : known (version_in c.args.bytes.now) ≡ true = ap known (sym c.version_in-version.ensures) ∙ yes c.known.ensures (ap not c.if-not-known.false) in
     let mode : cell 1 5 c.args.bytes.now ≤ 1 = omega (arith, c.if-h-gt1.false, mode-read _ _ c.header_in-h.ensures) in
     let none-past : bad_count (head_in c.args.bytes.now) ≡ none = sym (ap bad_count c.header_in-h.ensures ∙ count_left _ _) ∙ count_none _ c.bad_count-c.ensures c.in-Nothing.is in
-    let judged-next : Judgeable c.args.bytes.now c.version_in-version.result c.head_in.result = judgeable _ _ _ _ _ c.version_in-version.ensures c.header_in-h.ensures c.head_in.ensures c.if-h-gt1.left
-    c.bad_count-c.ensures c.in-Nothing.is (omega (arith, c.if-bytes-start_of, c.start_of_lem.ensures)) in
+    let judged-next : Judgeable c.args.bytes.now c.version_in-version.result c.head_in.result = judgeable _ _ _ _ _ c.version_in-version.ensures c.header_in-h.ensures c.head_in.ensures c.if-h-gt1.false
+    c.bad_count-c.ensures c.in-Nothing.is (omega (arith, c.if-bytes-start_of, c.start_of.ensures)) in
     let j = judged-next in
     by-rules _ _ _ j (fault-rules _ long mark version mode none-past (whole-exact _ _ _ j.whole)) c.rule_fault.ensures

@@ -1,5 +1,4 @@
 -- `book::fore` meets its contract. Assumes nothing.
-use borrow.Author.Rules.{rules}
 use Rattle.book.proofs.Laws.{fore-first, fore-later}
 use Rattle.book.proofs.fore.Goals as goal
 

@@ -6,7 +6,6 @@ use lib.ListN.{get_or}
 use Rattle.rows.specs.Number.{cell}
 use Rattle.rows.proofs.Laws.{cell-one}
 use Rattle.rules.specs.Bytes.{head, head_in, left_by}
-use borrow.Author.Rules.{rules}
 use Rattle.book.proofs.header_in.Goals as goal
 
 pub overflow_cast-mode : goal.overflow_cast-mode

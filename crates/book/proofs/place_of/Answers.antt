@@ -2,16 +2,11 @@
 use Prim.Native.Nat.{ℕ, ◌+◌, ◌*◌, ◌≤◌, ◌<◌}
 use native.Mathlib.Omega.{arith}
 use lib.ListN.{get_or}
-use borrow.Author.Rules.{rules}
 use Rattle.sets.specs.Words.{bytes}
 use Rattle.rules.specs.Bytes.{widths, counts, total, start}
 use Rattle.book.proofs.Laws.{fore-within}
 use Rattle.book.proofs.Answers.{row-counted, row-within-book, row-place, leavers-place, missing-place}
 use Rattle.book.proofs.place_of.Goals as goal
-
--- TODO array-read-result
--- array-read-result : tie.Need-array-read-result
--- array-read-result c = (there c.before).0
 
 pub start_of-requires : goal.start_of-requires
 start_of-requires c =
@@ -26,9 +21,8 @@ offset_bounds-k c =
     omega (arith, there)
 
 pub overflow_mul-result : goal.overflow_mul-result
-unfolding start total counts
 overflow_mul-result c =
-    let small : start c.args.version c.args.h 5 < 65536 * (3 * bytes + 13) = omega (arith, c.well_formed.1.0, fore-within c.args.version) in
+    let small : start c.args.version c.args.h 5 < 65536 * (3 * bytes + 13) = unfold start in unfold total in unfold counts in omega (arith, c.well_formed.1.0, fore-within c.args.version) in
     let row : ℕ × ℕ = (c.in-Row.k, c.in-Row.i) in
     let there : (row.0 < 5) × (row.1 < get_or (counts c.args.h) row.0 0) = row-counted _ c.in-Row.is c.requires in
     let within : let a = c.args in
@@ -36,17 +30,16 @@ overflow_mul-result c =
     omega (arith, within, small)
 
 pub overflow_add-result : goal.overflow_add-result
-unfolding start total counts
 overflow_add-result c =
-    let small : start c.args.version c.args.h 5 < 65536 * (3 * bytes + 13) = omega (arith, c.well_formed.1.0, fore-within c.args.version) in
+    let small : start c.args.version c.args.h 5 < 65536 * (3 * bytes + 13) = unfold start in unfold total in unfold counts in omega (arith, c.well_formed.1.0, fore-within c.args.version) in
     let row : ℕ × ℕ = (c.in-Row.k, c.in-Row.i) in
     let there : (row.0 < 5) × (row.1 < get_or (counts c.args.h) row.0 0) = row-counted _ c.in-Row.is c.requires in
     let within : let a = c.args in
     start a.version a.h row.0 + row.1 * get_or widths row.0 0 ≤ start a.version a.h 5 = row-within-book _ _ _ _ there.0 there.1 in
-    omega (arith, c.start_of_lem.ensures, within, small)
+    omega (arith, c.start_of.ensures, within, small)
 
 pub returns-in-Row : goal.returns-in-Row
-returns-in-Row c = row-place _ _ c.in-Row.is c.start_of_lem.ensures
+returns-in-Row c = row-place _ _ c.in-Row.is c.start_of.ensures
 
 pub returns-in-Leavers : goal.returns-in-Leavers
 returns-in-Leavers c = leavers-place _ _ c.in-Leavers.is

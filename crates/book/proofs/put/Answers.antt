@@ -2,7 +2,6 @@
 use native.Mathlib.Omega.{arith}
 use lib.ListN.{take, length-take, length-drop}
 use Rattle.rows.proofs.Part.{stored-part}
-use borrow.Author.Rules.{rules}
 use Rattle.book.proofs.put.Goals as goal
 
 pub slice_bounds-copy-end : goal.slice_bounds-copy-end

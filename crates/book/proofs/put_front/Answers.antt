@@ -3,7 +3,6 @@ use mathlib.Core.Path.{◌≡◌, ◌∙◌}
 use Prim.Native.Nat.{◌+◌, ◌≤◌}
 use native.Mathlib.Omega.{arith}
 use lib.ListN.{length, length-set}
-use borrow.Author.Rules.{rules}
 use Rattle.sets.specs.Words.{bytes}
 use Rattle.book.proofs.Laws.{front-stored}
 use Rattle.book.proofs.put_front.Goals as goal

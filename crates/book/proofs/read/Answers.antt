@@ -1,7 +1,6 @@
 -- `book::read` meets its contract: the tables are long enough and the bytes are a book before anything is laid. Assumes nothing.
 use mathlib.Core.Path.{◌≡◌}
 use mathlib.Core.Bool.{true, false}
-use borrow.Author.Rules.{rules}
 use borrow.Author.Tests.{not-true, not-false}
 use Rattle.rules.specs.Bytes.{Tables, tables, is_book}
 use Rattle.rules.specs.Refusals.{short}
@@ -41,8 +40,7 @@ load-requires c =
 pub returns : goal.returns
 returns c =
     let lent : Tables = tables c.args.iv.now c.args.it.now c.args.ov.now c.args.ot.now c.args.rs.now in
-    let left : Tables = let u = c.load.new.1.1.1 in
-    tables u.0 u.1.0 u.1.1.0 u.1.1.1.0 u.1.1.1.1.0 in
+    let left : Tables = tables c.load.new.iv c.load.new.it c.load.new.ov c.load.new.ot c.load.new.rs in
     let long : short lent ≡ false = not-true _ (yes c.long_enough.ensures (ap not c.if-not-long_enough.false)) in
     let is : is_book c.args.bytes.now ≡ true = book-nothing _ c.first_fault-w.ensures c.in-Nothing.is in
     read-given _ _ _ left long is c.head_in-h.ensures c.load.ensures

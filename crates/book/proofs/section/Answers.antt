@@ -4,19 +4,10 @@ use mathlib.Core.Path.{◌≡◌}
 use mathlib.Core.Bool.{true}
 use native.Mathlib.Omega.{arith}
 use lib.ListN.{length}
-use borrow.Author.Rules.{rules}
 use Rattle.rules.specs.Bytes.{version_in, head_in, start, is_book}
 use Rattle.theorems.proofs.WriteLaws.{book-bytes}
 use Rattle.book.proofs.Answers.{start-read, book-nothing, book-front, section-within, section-broken, section-none, section-given}
 use Rattle.book.proofs.section.Goals as goal
-
--- TODO slice-bounds-result-start-3
--- part-result-start-3 : tie.Need-slice-bounds-result-start-3
--- part-result-start-3 c = omega (arith, within c)
-
--- TODO slice-bounds-result-end-3
--- part-result-end-3 : tie.Need-slice-bounds-result-end-3
--- part-result-end-3 c = omega (arith, within c)
 
 pub returns-in-First : goal.returns-in-First
 returns-in-First c =
@@ -40,14 +31,30 @@ head_in-h-requires c =
 pub slice_bounds-result-count-2 : goal.slice_bounds-result-count-2
 slice_bounds-result-count-2 c =
     let is : is_book c.args.bytes.now ≡ true = book-nothing _ c.first_fault-w.ensures c.in-Nothing.is in
-    let from : let bs = c.args.bytes.now in c.start_of_lem.result ≡ start (version_in bs) (head_in bs) c.args.k = start-read _ _ c.start_of_lem.ensures c.version_in-version.ensures c.head_in-h.ensures in
+    let from : let bs = c.args.bytes.now in c.start_of-from.result ≡ start (version_in bs) (head_in bs) c.args.k = start-read _ _ c.start_of-from.ensures c.version_in-version.ensures c.head_in-h.ensures in
     let to : let bs = c.args.bytes.now in c.start_of-to.result ≡ start (version_in bs) (head_in bs) (c.args.k + 1) = start-read _ _ c.start_of-to.ensures c.version_in-version.ensures c.head_in-h.ensures in
-    let within : (c.start_of_lem.result ≤ c.start_of-to.result) × (c.start_of-to.result ≤ length c.args.bytes.now) = section-within _ _ _ _ is from to in
+    let within : (c.start_of-from.result ≤ c.start_of-to.result) × (c.start_of-to.result ≤ length c.args.bytes.now) = section-within _ _ _ _ is from to in
     within.0
+
+pub slice_bounds-result-start-2 : goal.slice_bounds-result-start-2
+slice_bounds-result-start-2 c =
+    let is : is_book c.args.bytes.now ≡ true = book-nothing _ c.first_fault-w.ensures c.in-Nothing.is in
+    let from : let bs = c.args.bytes.now in c.start_of-from.result ≡ start (version_in bs) (head_in bs) c.args.k = start-read _ _ c.start_of-from.ensures c.version_in-version.ensures c.head_in-h.ensures in
+    let to : let bs = c.args.bytes.now in c.start_of-to.result ≡ start (version_in bs) (head_in bs) (c.args.k + 1) = start-read _ _ c.start_of-to.ensures c.version_in-version.ensures c.head_in-h.ensures in
+    let within : (c.start_of-from.result ≤ c.start_of-to.result) × (c.start_of-to.result ≤ length c.args.bytes.now) = section-within _ _ _ _ is from to in
+    omega (arith, within)
+
+pub slice_bounds-result-end-2 : goal.slice_bounds-result-end-2
+slice_bounds-result-end-2 c =
+    let is : is_book c.args.bytes.now ≡ true = book-nothing _ c.first_fault-w.ensures c.in-Nothing.is in
+    let from : let bs = c.args.bytes.now in c.start_of-from.result ≡ start (version_in bs) (head_in bs) c.args.k = start-read _ _ c.start_of-from.ensures c.version_in-version.ensures c.head_in-h.ensures in
+    let to : let bs = c.args.bytes.now in c.start_of-to.result ≡ start (version_in bs) (head_in bs) (c.args.k + 1) = start-read _ _ c.start_of-to.ensures c.version_in-version.ensures c.head_in-h.ensures in
+    let within : (c.start_of-from.result ≤ c.start_of-to.result) × (c.start_of-to.result ≤ length c.args.bytes.now) = section-within _ _ _ _ is from to in
+    omega (arith, within)
 
 pub returns : goal.returns
 returns c =
     let is : is_book c.args.bytes.now ≡ true = book-nothing _ c.first_fault-w.ensures c.in-Nothing.is in
-    let from : let bs = c.args.bytes.now in c.start_of_lem.result ≡ start (version_in bs) (head_in bs) c.args.k = start-read _ _ c.start_of_lem.ensures c.version_in-version.ensures c.head_in-h.ensures in
+    let from : let bs = c.args.bytes.now in c.start_of-from.result ≡ start (version_in bs) (head_in bs) c.args.k = start-read _ _ c.start_of-from.ensures c.version_in-version.ensures c.head_in-h.ensures in
     let to : let bs = c.args.bytes.now in c.start_of-to.result ≡ start (version_in bs) (head_in bs) (c.args.k + 1) = start-read _ _ c.start_of-to.ensures c.version_in-version.ensures c.head_in-h.ensures in
     section-given _ _ _ _ is c.if-k-ge5.false from to

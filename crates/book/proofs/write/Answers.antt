@@ -2,7 +2,6 @@
 use mathlib.Core.Path.{◌≡◌}
 use mathlib.Core.Bool.{true, false}
 use native.Mathlib.Omega.{arith}
-use borrow.Author.Rules.{rules}
 use Rattle.rules.specs.Sound.{sound}
 use Rattle.rules.specs.Bytes.{Tables, tables, book_in}
 use Rattle.rules.specs.Refusals.{short}
@@ -13,13 +12,13 @@ pub returns-then-buffer-end : goal.returns-then-buffer-end
 returns-then-buffer-end c =
     let lent : Tables = tables c.args.iv.now c.args.it.now c.args.ov.now c.args.ot.now c.args.rs.now in
     let passed : (short lent ≡ false) × (sound (book_in c.args.h lent) ≡ true) = checked-sound _ _ c.in-Sound.is c.check-k.ensures in
-    write-short _ _ _ passed.0 passed.1 (omega (arith, c.start_of_lem.ensures))
+    write-short _ _ _ passed.0 passed.1 (omega (arith, c.start_of-end.ensures))
 
 pub save-requires : goal.save-requires
 save-requires c =
     let lent : Tables = tables c.args.iv.now c.args.it.now c.args.ov.now c.args.ot.now c.args.rs.now in
     let passed : (short lent ≡ false) × (sound (book_in c.args.h lent) ≡ true) = checked-sound _ _ c.in-Sound.is c.check-k.ensures in
-    savable _ _ _ passed.0 passed.1 (omega (arith, c.start_of_lem.ensures))
+    savable _ _ _ passed.0 passed.1 (omega (arith, c.start_of-end.ensures))
 
 pub returns-in-No : goal.returns-in-No
 returns-in-No c = write-refused _ _ _ _ (checked-no _ _ _ c.in-No.is c.check-k.ensures)
@@ -28,4 +27,4 @@ pub returns-else-buffer-end : goal.returns-else-buffer-end
 returns-else-buffer-end c =
     let lent : Tables = tables c.args.iv.now c.args.it.now c.args.ov.now c.args.ot.now c.args.rs.now in
     let passed : (short lent ≡ false) × (sound (book_in c.args.h lent) ≡ true) = checked-sound _ _ c.in-Sound.is c.check-k.ensures in
-    write-given _ _ _ _ _ passed.0 passed.1 (omega (arith, c.start_of_lem.ensures, c.if-buffer-end.false)) c.start_of_lem.ensures c.save.ensures
+    write-given _ _ _ _ _ passed.0 passed.1 (omega (arith, c.start_of-end.ensures, c.if-buffer-end.false)) c.start_of-end.ensures c.save.ensures

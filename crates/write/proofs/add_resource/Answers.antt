@@ -2,7 +2,6 @@
 use native.Mathlib.Omega.{arith}
 use Rattle.write.proofs.WriteLaws.{resource-added}
 use Rattle.sets.specs.Words.{set_in}
-use borrow.Author.Rules.{rules}
 use Rattle.write.proofs.add_resource.Goals as goal
 
 pub returns : goal.returns

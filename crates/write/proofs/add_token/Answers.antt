@@ -1,7 +1,6 @@
 -- `write::add_token` meets its contract. Assumes nothing.
 use native.Mathlib.Omega.{arith}
 use Rattle.write.proofs.WriteLaws.{token-added}
-use borrow.Author.Rules.{rules}
 use Rattle.write.proofs.add_token.Goals as goal
 
 pub returns : goal.returns

@@ -1,11 +1,9 @@
 -- `write::relock_waiting` meets its contract: of the first i resources those that wait are re-locked. Assumes nothing.
 use mathlib.Core.Path.{◌≡◌}
-use mathlib.Core.Logic.{⊎_elim}
-use Prim.Native.Nat.{◌-◌}
 use native.Mathlib.Omega.{arith}
-use Rattle.sets.specs.Words.{set_in}
-use Rattle.write.proofs.RelockLaws.{Run, run_none, same-run, run-no, run-yes, run_long, run_room, run-all}
+use Rattle.write.proofs.RelockLaws.{run_none, same-run, run-no, run-yes, run_long, run_room, run-all}
 use Rattle.write.proofs.relock_waiting.Goals as goal
+use Rattle.write.proofs.relock_waiting.Goals.{then-waits, else-waits}
 
 pub loop-i-init : goal.loop-i-init
 loop-i-init c = run_none _ _ _ _ _ _ _ _
@@ -42,11 +40,13 @@ loop-i-smaller c = omega arith
 pub loop-i-preserved : goal.loop-i-preserved
 loop-i-preserved c =
     let in-turn = c.loop-i-test.true in
-    ⊎_elim
-    (λ w. same-run _ _ _ _ _ _ _ _ w.8 w.9 w.10
-    (run-yes _ _ _ _ _ _ _ _ c.loop-i.invariant in-turn c.waits.ensures w.0.taken c.requires.list_in_bounds w.3.ensures.0 w.3.ensures.1))
-    (λ w. same-run _ _ _ _ _ _ _ _ w.1 w.2 w.3 (run-no _ _ _ _ _ _ _ _ c.loop-i.invariant in-turn c.waits.ensures w.0.left))
-    c.if-waits.branch
+    elim c.if-waits.branch [
+      | then-waits w ↦
+          same-run _ _ _ _ _ _ _ _ w.rs-is w.orders-is w.next-is
+          (run-yes _ _ _ _ _ _ _ _ c.loop-i.invariant in-turn c.waits.ensures w.if-waits.true c.requires.list_in_bounds w.relock.ensures.resources w.relock.ensures.orders_after)
+      | else-waits w ↦
+          same-run _ _ _ _ _ _ _ _ w.rs-is w.orders-is w.next-is (run-no _ _ _ _ _ _ _ _ c.loop-i.invariant in-turn c.waits.ensures w.if-waits.false)
+    ]
 
 pub shape_of-rs : goal.shape_of-rs
 shape_of-rs c = c.loop-i.invariant.table.same

@@ -1,9 +1,6 @@
-use mathlib.Core.Path.{◌≡◌}
-use mathlib.Core.Logic.{⊎_elim}
 use Prim.Native.Nat.{◌-◌}
-use native.Mathlib.Omega.{arith}
 use Rattle.sets.specs.Words.{set_in}
-use Rattle.write.proofs.RelockLaws.{Run, run_none, same-run, run-no, run-yes, run_long, run_room, run-all}
+use Rattle.write.proofs.RelockLaws.{Run}
 use Rattle.write.proofs.relock_waiting.Given as goal
 
 abbrev pub invariant-loop-i : goal.invariant-loop-i
