@@ -1,0 +1,24 @@
+-- `fenstubble_read` meets its contract. Assumes nothing.
+use native.Mathlib.Omega.{arith}
+use Rattle.rules.specs.Bytes.{Tables, tables}
+use Rattle.host.proofs.Laws.{read_short, read-refused, read-given}
+use Rattle.host.proofs.fenstubble_read.Goals as goal
+
+pub returns-then-head-lt-HEAD : goal.returns-then-head-lt-HEAD
+returns-then-head-lt-HEAD c = read_short _ _ _ c.if-head-lt-HEAD.true
+
+pub put_head-requires : goal.put_head-requires
+put_head-requires c =
+    omega (arith, c.if-head-lt-HEAD.false)
+
+pub returns-in-No : goal.returns-in-No
+returns-in-No c =
+    let left : Tables = tables c.read-a.new.iv c.read-a.new.it c.read-a.new.ov c.read-a.new.ot c.read-a.new.rs in
+    read-refused _ _ _ {u = left} (omega (arith, c.if-head-lt-HEAD.false)) c.read-a.ensures c.in-No.is
+    c.denial_number.ensures
+    c.denial_place.ensures
+
+pub returns-in-Is : goal.returns-in-Is
+returns-in-Is c =
+    let left : Tables = tables c.read-a.new.iv c.read-a.new.it c.read-a.new.ov c.read-a.new.ot c.read-a.new.rs in
+    read-given _ _ _ {u = left} (omega (arith, c.if-head-lt-HEAD.false)) c.read-a.ensures c.in-Is.is c.put_head.ensures
