@@ -39,13 +39,13 @@ words-all {words} i at e p =
 
 -- ---- the fault of a longer input
 
-pub grown-other : (tag : Fault → ℕ) → ((m : ℕ) → tag (Length m) ≡ 4) → (n : ℕ) (f : Fault) → OneOf (0 ∷ 1 ∷ 2 ∷ 3 ∷ 5 ∷ []) (tag f) → f ≡ grown n f
-grown-other tag l n Mark h = refl
-grown-other tag l n Version h = refl
-grown-other tag l n Mode h = refl
-grown-other tag l n (Count place) h = refl
-grown-other tag l n (Length m) h = absurd (miss (0 ∷ 1 ∷ 2 ∷ 3 ∷ 5 ∷ []) 4 tt (rw (l m) at h))
-grown-other tag l n (Rule r s at) h = refl
+pub grown-other : (n : ℕ) (f : Fault) → ((m : ℕ) → f ≡ Length m → ⊥) → f ≡ grown n f
+grown-other n Mark h = refl
+grown-other n Version h = refl
+grown-other n Mode h = refl
+grown-other n (Count place) h = refl
+grown-other n (Length m) h = absurd (h m refl)
+grown-other n (Rule r s at) h = refl
 
 -- ---- the head, line by line
 

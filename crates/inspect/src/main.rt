@@ -18,6 +18,7 @@ ghost use Rattle.inspect.specs.Text.{Answered};
 use answer::put_check;
 use input::read_all;
 use output::write_out;
+use std::io::{Stderr, Stdin};
 
 // Where the answer's text ends in the output buffer; Failed where the input can't be read.
 #[derive(Clone, Copy)]
@@ -27,12 +28,12 @@ enum Reply {
 }
 
 // Reads the input and puts the answer into the output buffer.
-fn check(input: &mut [u8], out: &mut [u8]) -> Reply
+fn check(stdin: Stdin, stderr: Stderr, input: &mut [u8], out: &mut [u8]) -> Reply
     requires longest_value { longest + 1 ≡ length input.old }
     requires in_bounds { 512 ≤ length out.old }
     ensures { Answered input.new result out.new }
 {
-    let c = read_all(input);
+    let c = read_all(stdin, stderr, input);
     if c.failed {
         return Reply::Failed;
     }
@@ -40,12 +41,12 @@ fn check(input: &mut [u8], out: &mut [u8]) -> Reply
     Reply::To(put_check(&input[..kept], c.total, out))
 }
 
-fn main() {
+fn main(rt: HostRuntime) {
     let mut input = memory::input_bytes();
     let mut out = memory::output_bytes();
-    let a = check(&mut input, &mut out);
+    let a = check(rt.stdin(), rt.stderr(), &mut input, &mut out);
     let Reply::To(end) = a else {
         return;
     };
-    write_out(&out[..end]);
+    write_out(rt.stdout(), rt.stderr(), &out[..end]);
 }
