@@ -5,8 +5,9 @@ ghost use Rattle.lines.specs.Program.{lines_in};
 ghost use Rattle.desk.specs.Input.{between, Within};
 ghost use Rattle.desk.specs.Hint.{blank, capital, marked, hint_for, hint_in};
 
+use crate::console::Console;
 use crate::input::{Unread, line_end};
-use libc::STDERR_FILENO;
+use std::io::Print;
 
 // What the first line is instead of a mode: nothing came in, it is empty, begins with a byte order mark, ends in a carriage return, has a blank at an end,
 // has a capital; or anything else.
@@ -110,34 +111,27 @@ pub fn hint_in(input: &[u8], u: Unread) -> Hint
     hint_for(&input[from..end])
 }
 
-pub fn tell(h: Hint) {
-    match h {
-        Hint::Nothing => io::write_all(
-            STDERR_FILENO,
+pub fn tell(console: Console, h: Hint) {
+    let _ = match h {
+        Hint::Nothing => console.stderr.write_all(
             b"fenstubble: nothing came in: the first line must be 'delta' or 'full' (see --help)\n",
         ),
-        Hint::Empty => io::write_all(
-            STDERR_FILENO,
+        Hint::Empty => console.stderr.write_all(
             b"fenstubble: the first line is empty: write 'delta' or 'full' there\n",
         ),
-        Hint::Marked => io::write_all(
-            STDERR_FILENO,
+        Hint::Marked => console.stderr.write_all(
             b"fenstubble: the first line begins with a byte order mark: save the requests as plain text without one\n",
         ),
-        Hint::Returned => io::write_all(
-            STDERR_FILENO,
+        Hint::Returned => console.stderr.write_all(
             b"fenstubble: the first line ends in a carriage return: save the requests with plain newlines (tr -d '\\r' < old > new)\n",
         ),
-        Hint::Blank => io::write_all(
-            STDERR_FILENO,
+        Hint::Blank => console.stderr.write_all(
             b"fenstubble: the first line has a blank before or behind it: write 'delta' or 'full' alone\n",
         ),
-        Hint::Capital => io::write_all(
-            STDERR_FILENO,
+        Hint::Capital => console.stderr.write_all(
             b"fenstubble: the first line has a capital: write 'delta' or 'full' in small letters\n",
         ),
-        Hint::Other => io::write_all(
-            STDERR_FILENO,
+        Hint::Other => console.stderr.write_all(
             b"fenstubble: the first line is neither 'delta' nor 'full' (see --help)\n",
         ),
     };

@@ -5,8 +5,9 @@ ghost use Rattle.rules.specs.Lists.{first};
 ghost use Rattle.lines.specs.Program.{newline, lines_in};
 ghost use Rattle.desk.specs.Input.{between, Within, pending, lacks_line, Unless, Got, FirstRead, Kept, Keeps, Ends, Moded, mode_taken};
 
-use libc::{STDERR_FILENO, STDIN_FILENO};
+use crate::console::Console;
 use lines::request::{First, read_mode};
+use std::io::{Print, Read};
 
 // The buffer's bytes: a line too long to be a request and one read more.
 pub const INPUT: usize = 16384;
@@ -111,10 +112,12 @@ fn end_last(input: &mut [u8], u: Unread) -> Unread
 }
 
 // A read that fails ends the input, and says so on standard error; the unfinished line is not taken for a whole one.
-fn fail() -> Unread
+fn fail(console: Console) -> Unread
     ensures { result ≡ record { from = 0; to = 0; cut = false; ended = true; failed = true } }
 {
-    io::write_all(STDERR_FILENO, b"fenstubble: standard input can't be read\n");
+    let _ = console
+        .stderr
+        .write_all(b"fenstubble: standard input can't be read\n");
     Unread {
         from: 0,
         to: 0,
@@ -125,7 +128,7 @@ fn fail() -> Unread
 }
 
 // One read behind an unfinished line.
-pub fn read_more(input: &mut [u8], u: Unread) -> Unread
+pub fn read_more(console: Console, input: &mut [u8], u: Unread) -> Unread
     requires within { Within u input.old }
     requires in_bounds { 512 < length input.old }
     requires input_value { lines_in (pending u input.old) ≡ [] }
@@ -133,20 +136,17 @@ pub fn read_more(input: &mut [u8], u: Unread) -> Unread
 {
     let k = keep_start(input, u);
     let to = k.to;
-    let got = libc::read(STDIN_FILENO, &mut input[to..]);
-    if got == 0 {
-        return end_last(input, k);
-    }
-    if got < 0 {
-        return fail();
-    }
-    let n = io::count(got, &input[to..]);
-    Unread {
-        from: 0,
-        to: to + n,
-        cut: k.cut,
-        ended: false,
-        failed: false,
+    let mut stdin = console.stdin;
+    match stdin.read(&mut input[to..]) {
+        Ok(0) => end_last(input, k),
+        Ok(n) => Unread {
+            from: 0,
+            to: to + n,
+            cut: k.cut,
+            ended: false,
+            failed: false,
+        },
+        Err(_) => fail(console),
     }
 }
 
@@ -164,7 +164,7 @@ fn lacks_line(input: &[u8], u: Unread) -> bool
 }
 
 // Reads until the first line is whole, or the input ends. (The count of turns: nothing says that the input ends. An input that uses it up fails.)
-pub fn read_first(input: &mut [u8]) -> Unread
+pub fn read_first(console: Console, input: &mut [u8]) -> Unread
     requires { 512 < length input.old }
     ensures within { Within result input.new }
     ensures unless { Unless result.failed (FirstRead result input.new) }
@@ -178,11 +178,11 @@ pub fn read_first(input: &mut [u8]) -> Unread
     };
     let mut turns = u64::MAX;
     while turns > 0 && lacks_line(input, u) {
-        u = read_more(input, u);
+        u = read_more(console, input, u);
         turns -= 1;
     }
     if turns == 0 {
-        return fail();
+        return fail(console);
     }
     u
 }

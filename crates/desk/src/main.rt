@@ -3,6 +3,7 @@
 #![tactic(auto)]
 
 mod block;
+mod console;
 mod hint;
 mod input;
 mod memory;
@@ -19,6 +20,7 @@ ghost use Rattle.desk.specs.Output.{longest};
 ghost use Rattle.desk.specs.Turn.{Starts, Holds, Waits, Lent, Printing, desk, Goes, Runs, Awaits};
 
 use block::{read_block, serve_block};
+use console::Console;
 use hint::{hint_in, tell};
 use input::{Unread, read_first, read_more, take_mode};
 use lines::request::First;
@@ -57,7 +59,7 @@ struct State {
 }
 
 // Where no whole line is left: the answers go out before more input is waited for.
-fn wait(s: State, input: &mut [u8], out: &mut [u8]) -> State
+fn wait(console: Console, s: State, input: &mut [u8], out: &mut [u8]) -> State
     requires waits { Waits s input.old out.old }
     requires input_value { lines_in (pending s.unread input.old) ≡ [] }
     ensures waits_2 { Waits result input.new out.new }
@@ -67,7 +69,7 @@ fn wait(s: State, input: &mut [u8], out: &mut [u8]) -> State
     let filled = s.filled;
     let head = s.head;
     let unread = s.unread;
-    if !write_out(&out[..filled]) {
+    if !write_out(console, &out[..filled]) {
         return State {
             head,
             unread,
@@ -85,7 +87,7 @@ fn wait(s: State, input: &mut [u8], out: &mut [u8]) -> State
             failed: false,
         };
     }
-    let unread = read_more(input, unread);
+    let unread = read_more(console, input, unread);
     let failed = unread.failed;
     State {
         head,
@@ -120,6 +122,7 @@ fn printed(head: Head, unread: Unread, p: Printed) -> State
 
 // The requests of a block are served, and their answers printed.
 fn answer_block(
+    console: Console,
     s: State,
     iv: &mut [u8],
     it: &mut [u8],
@@ -148,12 +151,13 @@ fn answer_block(
     let Served::Done(after, _) = served else {
         return s;
     };
-    let p = print_block(requests, &answers[..end], orders, out, s.filled);
+    let p = print_block(console, requests, &answers[..end], orders, out, s.filled);
     printed(after, unread, p)
 }
 
 // The whole lines at hand, as many as one call serves.
 fn turn(
+    console: Console,
     s: State,
     iv: &mut [u8],
     it: &mut [u8],
@@ -183,13 +187,26 @@ fn turn(
     };
     let n = b.rows * REQUEST_WIDTH;
     if n == 0 {
-        return wait(s, input, out);
+        return wait(console, s, input, out);
     }
-    answer_block(s, iv, it, ov, ot, rs, &requests[..n], answers, orders, out)
+    answer_block(
+        console,
+        s,
+        iv,
+        it,
+        ov,
+        ot,
+        rs,
+        &requests[..n],
+        answers,
+        orders,
+        out,
+    )
 }
 
 // The turns are counted down from a number that no run uses up: nothing says that the input ends.
 fn answer_all(
+    console: Console,
     s: State,
     iv: &mut [u8],
     it: &mut [u8],
@@ -209,6 +226,7 @@ fn answer_all(
     let mut turns = u64::MAX;
     while turns > 0 && state.going {
         state = turn(
+            console,
             state,
             iv,
             it,
@@ -226,9 +244,14 @@ fn answer_all(
     state
 }
 
-fn main() {
+fn main(rt: HostRuntime) {
+    let console = Console {
+        stdin: rt.stdin(),
+        stdout: rt.stdout(),
+        stderr: rt.stderr(),
+    };
     let mut input = memory::input_bytes();
-    let whole = read_first(&mut input);
+    let whole = read_first(console, &mut input);
     if whole.failed {
         return;
     }
@@ -236,8 +259,8 @@ fn main() {
     let first = t.first;
     let unread = t.unread;
     let First::Of(mode) = first else {
-        refuse_start();
-        tell(hint_in(&input, whole));
+        refuse_start(console);
+        tell(console, hint_in(&input, whole));
         return;
     };
     let mut iv = memory::inner_vertices();
@@ -252,5 +275,7 @@ fn main() {
         going: true,
         failed: false,
     };
-    answer_all(s, &mut iv, &mut it, &mut ov, &mut ot, &mut rs, &mut input);
+    answer_all(
+        console, s, &mut iv, &mut it, &mut ov, &mut ot, &mut rs, &mut input,
+    );
 }

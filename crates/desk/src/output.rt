@@ -4,10 +4,11 @@ ghost use Rattle.lines.specs.Answer.{room_for};
 ghost use Rattle.desk.specs.Output.{Filled, counts, never_more, longest, told, Prints, texts, Gathers};
 
 use crate::block::MALFORMED;
-use libc::{STDERR_FILENO, STDOUT_FILENO};
+use crate::console::Console;
 use lines::answer::{Put, put_answer};
 use policy::serve::ANSWER_WIDTH;
 use rules::Order;
+use std::io::Print;
 
 // The buffer's bytes: more than the longest answer has, that of a leave.
 pub const OUTPUT: usize = 98304;
@@ -20,24 +21,30 @@ pub enum Printed {
 }
 
 // Writes a text out; says so on standard error where that fails.
-pub fn write_out(text: &[u8]) -> bool {
-    let written = io::write_all(STDOUT_FILENO, text);
+pub fn write_out(console: Console, text: &[u8]) -> bool {
+    let written = console.stdout.write_all(text).is_ok();
     if !written {
-        io::write_all(
-            STDERR_FILENO,
-            b"fenstubble: standard output can't be written\n",
-        );
+        let _ = console
+            .stderr
+            .write_all(b"fenstubble: standard output can't be written\n");
     }
     written
 }
 
 // The input starts with neither `delta` nor `full`.
-pub fn refuse_start() {
-    write_out(b"no 14\n");
+pub fn refuse_start(console: Console) {
+    write_out(console, b"no 14\n");
 }
 
 // One answer behind those gathered, or at the front once those are written out. There it has room, so that it fails only where they can't be written.
-fn print_answer(number: u16, view: u16, rows: &[u16], out: &mut [u8], filled: usize) -> Printed
+fn print_answer(
+    console: Console,
+    number: u16,
+    view: u16,
+    rows: &[u16],
+    out: &mut [u8],
+    filled: usize,
+) -> Printed
     requires filled_in_bounds { filled ≤ length out.old }
     requires out_value { room_for rows.now 0 out.old ≡ true }
     ensures filled { Filled result out.new }
@@ -46,7 +53,7 @@ fn print_answer(number: u16, view: u16, rows: &[u16], out: &mut [u8], filled: us
     if let Put::To(end) = put_answer(number, view, rows, out, filled) {
         return Printed::To(end);
     }
-    if !write_out(&out[..filled]) {
+    if !write_out(console, &out[..filled]) {
         return Printed::Failed;
     }
     let Put::To(end) = put_answer(number, view, rows, out, 0) else {
@@ -73,6 +80,7 @@ fn wide(n: u16) -> usize
 
 // The answers of a block, each with its stretch of the order list.
 pub fn print_block(
+    console: Console,
     requests: &[u64],
     answers: &[u16],
     orders: &[u16],
@@ -94,7 +102,7 @@ pub fn print_block(
         let number = number_told(requests[at], answers[at]);
         let view = answers[at + 1];
         let next = used + wide(answers[at + 2]) * Order::WIDTH;
-        let p = print_answer(number, view, &orders[used..next], out, end);
+        let p = print_answer(console, number, view, &orders[used..next], out, end);
         let Printed::To(e) = p else {
             return Printed::Failed;
         };

@@ -1,14 +1,13 @@
 -- Texts one behind the other in the output buffer. Assumes nothing.
 use Prim.Native.Nat.{ℕ, ◌+◌, ◌≤◌, ◌<◌}
 use mathlib.Core.Path.{◌≡◌, refl, sym, ap, ◌∙◌}
-use mathlib.Core.List.{List, [], ◌∷◌, ◌++◌}
+use mathlib.Core.List.{List, [], ◌++◌}
 use native.Mathlib.Numerals.{add-one}
 use native.Mathlib.Omega.{arith}
 use lib.Dec.{eqb}
 use lib.ListN.{length, take, get_or, set}
 use lib.Seq.{take-suc, take-length}
 use borrow.Author.Tests.{ne_eqb, le-ltb}
-use types.Run.{OneOf, miss}
 use Rattle.rules.specs.Lists.{first}
 use Rattle.rules.specs.Sound.{count_limits}
 use Rattle.rules.specs.Bytes.{limits_of, count_places}

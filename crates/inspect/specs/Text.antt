@@ -1,6 +1,6 @@
 -- What the check program prints: RULES 15.2 and 15.3. The words of the second line are the program's own. 10 is the newline, 32 the space, 58 the colon.
 -- Assumes nothing.
-use Rattle.std.specs.Prelude.{ℕ, ◌+◌, ◌≤◌, ◌≡◌, cond, List, ◌++◌, eqb, ltb, length, take, get_or}
+use Rattle.std.specs.Prelude.{ℕ, ◌≤◌, ◌≡◌, cond, List, ◌++◌, eqb, ltb, length, take, get_or}
 use Rattle.std.proofs.Math.Option.{Option, some, none}
 use Rattle.sets.specs.Sets.{size}
 use Rattle.sets.specs.Words.{set_in}

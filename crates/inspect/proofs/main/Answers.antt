@@ -2,7 +2,6 @@
 use lib.Seq.{length-take-le}
 use mathlib.Core.Path.{sym}
 use Rattle.inspect.specs.Text.{Told}
-use borrow.Author.Rules.{rules}
 use Rattle.inspect.proofs.main.Goals as goal
 
 pub slice_bounds-out-end : goal.slice_bounds-out-end

@@ -1,9 +1,5 @@
 -- `inspect::answer::grow` meets its contract. Assumes nothing.
-use Rattle.rules.specs.contracts.Fault.{the_type}
-use denote.Enum.Declared.{tag_of}
 use Rattle.inspect.proofs.TextLaws.{grown-other}
-use mathlib.Core.Path.{refl}
-use borrow.Author.Rules.{rules}
 use Rattle.inspect.proofs.answer.grow.Goals as goal
 
 pub returns-in-Length : goal.returns-in-Length

@@ -2,7 +2,6 @@
 use Rattle.inspect.specs.Text.{leavers_text, head_text}
 use Rattle.lines.proofs.Putting.{put_then}
 use native.Mathlib.Omega.{arith}
-use borrow.Author.Rules.{rules}
 use Rattle.inspect.proofs.answer.put_head.Goals as goal
 
 pub returns : goal.returns

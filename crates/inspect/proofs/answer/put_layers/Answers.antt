@@ -1,7 +1,6 @@
 -- `inspect::answer::put_layers` meets its contract. Assumes nothing.
 use Rattle.inspect.proofs.TextLaws.{layers-text}
 use native.Mathlib.Omega.{arith}
-use borrow.Author.Rules.{rules}
 use Rattle.inspect.proofs.answer.put_layers.Goals as goal
 
 pub put_number-requires : goal.put_number-requires

@@ -2,7 +2,6 @@
 use Rattle.inspect.specs.Text.{mode_text}
 use borrow.Author.Tests.{ne_eqb}
 use native.Mathlib.Omega.{arith}
-use borrow.Author.Rules.{rules}
 use Rattle.inspect.proofs.answer.put_mode.Goals as goal
 
 pub returns-then-mode-eq0 : goal.returns-then-mode-eq0

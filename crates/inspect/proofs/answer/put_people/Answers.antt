@@ -1,7 +1,6 @@
 -- `inspect::answer::put_people` meets its contract. Assumes nothing.
 use Rattle.inspect.proofs.TextLaws.{people-text}
 use native.Mathlib.Omega.{arith}
-use borrow.Author.Rules.{rules}
 use Rattle.inspect.proofs.answer.put_people.Goals as goal
 
 pub returns : goal.returns

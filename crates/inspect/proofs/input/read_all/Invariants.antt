@@ -1,12 +1,6 @@
-use mathlib.Core.Path.{◌≡◌, refl, sym}
-use borrow.Author.Tests.{not-true, not-false}
+use mathlib.Core.Path.{◌≡◌}
 use lib.ListN.{length}
-use mathlib.Core.List.{[]}
-use mathlib.Core.Logic.{⊎_elim}
-use mathlib.Core.Bool.{true, true≢false}
 use Rattle.inspect.specs.Input.{Unless, Over, SoFar}
-use Rattle.inspect.proofs.InputLaws.{holds-none, read-failed, unless-so, so_far_more, going_on}
-use native.Mathlib.Omega.{arith}
 use Rattle.inspect.proofs.input.read_all.Given as goal
 
 abbrev pub invariant-loop-turns : goal.invariant-loop-turns

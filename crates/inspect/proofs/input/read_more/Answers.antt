@@ -1,7 +1,6 @@
 -- `inspect::input::read_more` meets its contract. Assumes nothing.
 use Rattle.inspect.proofs.InputLaws.{unless-so, counts-read}
 use native.Mathlib.Omega.{arith}
-use borrow.Author.Rules.{rules}
 use Rattle.inspect.proofs.input.read_more.Goals as goal
 
 pub returns : goal.returns

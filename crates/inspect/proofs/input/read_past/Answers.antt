@@ -2,11 +2,10 @@
 use lib.Seq.{length-take-le}
 use lib.ListN.{length, take}
 use mathlib.Core.Bool.{true≢false}
-use mathlib.Core.Path.{◌≡◌, refl, sym}
+use mathlib.Core.Path.{refl, sym}
 use Prim.Native.Nat.{◌≤◌}
 use Rattle.inspect.proofs.InputLaws.{past-ends, read-failed}
 use native.Mathlib.Omega.{arith}
-use borrow.Author.Rules.{rules}
 use Rattle.inspect.proofs.input.read_past.Goals as goal
 
 pub returns-then-n-total : goal.returns-then-n-total

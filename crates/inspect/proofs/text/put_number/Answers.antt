@@ -1,6 +1,5 @@
 -- `inspect::text::put_number` meets its contract. Assumes nothing.
 use native.Mathlib.Omega.{arith}
-use borrow.Author.Rules.{rules}
 use Rattle.lines.proofs.Putting.{put_then}
 use Rattle.lines.proofs.Texts.{twenty-one}
 use Rattle.inspect.proofs.text.put_number.Goals as goal

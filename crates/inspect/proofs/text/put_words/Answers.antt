@@ -1,9 +1,7 @@
 -- `inspect::text::put_words` meets its contract. The invariant: the words passed are put. Assumes nothing.
-use Prim.Native.Nat.{◌+◌, ◌-◌, ◌≤◌}
-use mathlib.Core.Path.{◌≡◌, refl}
+use mathlib.Core.Path.{refl}
 use native.Mathlib.Omega.{arith}
-use lib.ListN.{length, take, length-set}
-use Rattle.lines.specs.Answer.{Puts}
+use lib.ListN.{length-set}
 use Rattle.inspect.proofs.TextLaws.{words-none, words_more, words-all}
 use Rattle.inspect.proofs.text.put_words.Goals as goal
 

@@ -1,9 +1,7 @@
 use Prim.Native.Nat.{◌+◌, ◌-◌, ◌≤◌}
-use mathlib.Core.Path.{◌≡◌, refl}
-use native.Mathlib.Omega.{arith}
-use lib.ListN.{length, take, length-set}
+use mathlib.Core.Path.{◌≡◌}
+use lib.ListN.{length, take}
 use Rattle.lines.specs.Answer.{Puts}
-use Rattle.inspect.proofs.TextLaws.{words-none, words_more, words-all}
 use Rattle.inspect.proofs.text.put_words.Given as goal
 
 abbrev pub invariant-loop-i : goal.invariant-loop-i

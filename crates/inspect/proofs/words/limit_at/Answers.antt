@@ -4,7 +4,6 @@ use Rattle.rules.specs.Bytes.{limits_of}
 use Rattle.rules.specs.Sound.{count_limits}
 use Rattle.rules.specs.Lists.{first}
 use Rattle.inspect.specs.Text.{limit_at}
-use borrow.Author.Rules.{rules}
 use native.Mathlib.Omega.{arith}
 use Rattle.inspect.proofs.words.limit_at.Goals as goal
 

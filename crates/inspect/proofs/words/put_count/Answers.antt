@@ -1,7 +1,6 @@
 -- `inspect::words::put_count` meets its contract. Assumes nothing.
 use Rattle.inspect.specs.Text.{count_words, count_text}
 use borrow.Author.Tests.{ne_eqb}
-use borrow.Author.Rules.{rules}
 use native.Mathlib.Omega.{arith}
 use Rattle.inspect.proofs.words.put_count.Goals as goal
 

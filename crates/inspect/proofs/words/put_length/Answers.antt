@@ -2,7 +2,6 @@
 use Rattle.inspect.specs.Text.{length_text}
 use Rattle.lines.proofs.Putting.{put_then}
 use native.Mathlib.Omega.{arith}
-use borrow.Author.Rules.{rules}
 use Rattle.inspect.proofs.words.put_length.Goals as goal
 
 pub returns : goal.returns

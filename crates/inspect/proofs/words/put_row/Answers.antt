@@ -2,7 +2,6 @@
 use Rattle.inspect.specs.Text.{section_words, row_text}
 use borrow.Author.Tests.{ne_eqb}
 use native.Mathlib.Omega.{arith}
-use borrow.Author.Rules.{rules}
 use Rattle.inspect.proofs.words.put_row.Goals as goal
 
 pub returns-in-0 : goal.returns-in-0

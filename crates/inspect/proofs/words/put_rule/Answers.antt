@@ -1,5 +1,4 @@
 -- `inspect::words::put_rule` meets its contract. Assumes nothing.
-use borrow.Author.Rules.{rules}
 use Rattle.inspect.proofs.words.put_rule.Goals as goal
 
 pub returns-in-S1 : goal.returns-in-S1

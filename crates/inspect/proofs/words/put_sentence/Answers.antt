@@ -2,7 +2,6 @@
 use Rattle.inspect.proofs.TextLaws.{sentence-length}
 use Rattle.lines.proofs.Putting.{put_then}
 use native.Mathlib.Omega.{arith}
-use borrow.Author.Rules.{rules}
 use Rattle.inspect.proofs.words.put_sentence.Goals as goal
 
 pub returns-in-Mark : goal.returns-in-Mark

@@ -1,6 +1,5 @@
 -- `inspect::words::put_spot` meets its contract. Assumes nothing.
 use native.Mathlib.Omega.{arith}
-use borrow.Author.Rules.{rules}
 use Rattle.inspect.proofs.words.put_spot.Goals as goal
 
 pub returns-in-Row : goal.returns-in-Row
