@@ -3,7 +3,7 @@
 use std::env;
 use std::path::Path;
 
-/// Where `rt staticlib host` leaves it, from this package.
+/// Where `tools/build host` leaves it, from this package.
 const DEFAULT: &str = "../../target/staticlib";
 
 fn main() {
@@ -24,7 +24,7 @@ fn main() {
             library.display()
         );
         println!(
-            "cargo::error=build it with `rt staticlib host`, or name its folder in FENSTUBBLE_LIB; \
+            "cargo::error=build it with `tools/build host`, or name its folder in FENSTUBBLE_LIB; \
              `--features self-test` does without it"
         );
         return;

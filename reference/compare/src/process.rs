@@ -56,8 +56,8 @@ impl Process {
             (true, _) => Ok(Process::at(path, &[])),
             (false, Some(_)) => Err(format!("there is no program {}", path.display())),
             (false, None) => Err(format!(
-                "the engine's program, target/bin/{name}, is not there (`rt check {name}` makes \
-                 it; {variable} can name another)"
+                "the engine's program, target/bin/{name}, is not there (`tools/build {name}` \
+                 makes it; {variable} can name another)"
             )),
         }
     }
