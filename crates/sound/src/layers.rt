@@ -115,6 +115,7 @@ pub fn token_fault(tokens: &[u8], vertices: &[u8], l: Shape, rule: Rule) -> Foun
 }
 
 // S3: the first vertex whose set an earlier one has. Only a set whose mark was met before is searched for among the earlier ones.
+#[inline(never)]
 pub fn equal_set(vertices: &[u8], n: usize) -> Found
     requires { n * bytes ≤ length vertices.now }
     ensures { result ≡ found_in n (first (repeated (sets_in n vertices.now)) (up_to n)) }
@@ -143,6 +144,7 @@ fn united(s: Users, all: Users) -> bool
 }
 
 // S5: the first group vertex whose set is not the union of its sources' sets.
+#[inline(never)]
 pub fn ununited(tokens: &[u8], vertices: &[u8], l: Shape) -> Found
     requires laid { Laid l tokens.now vertices.now }
     requires vertices_le_max_vertices { l.vertices ≤ max_vertices }
@@ -161,6 +163,7 @@ pub fn ununited(tokens: &[u8], vertices: &[u8], l: Shape) -> Found
 }
 
 // S6: the first token between two vertices that an earlier one is between. (Where S4 and S6's other half hold, such rows are equal.)
+#[inline(never)]
 pub fn equal_token(tokens: &[u8], width: usize, n: usize) -> Found
     requires le_width { (4 ≤ width) × (width ≤ 5) × (n * width ≤ length tokens.now) }
     requires ends { Ends max_vertices (tokens_in width n tokens.now) }
