@@ -24,7 +24,7 @@ use Rattle.rules.specs.declared.Head.{Head}
 use Rattle.rules.specs.declared.Refusal.{Refusal}
 use Rattle.rules.specs.declared.Refusal.TheVariants.{NoSuch, ShortList}
 use Rattle.rules.specs.declared.Served.TheVariants.{Done, No}
-use Rattle.theorems.proofs.ListLaws.{length-tabulate, get_d_tabulate}
+use Rattle.theorems.proofs.ListLaws.{length-tabulate, get_or-tabulate}
 use Rattle.theorems.proofs.ByteLaws.{SameLengths}
 use Rattle.theorems.proofs.RequestLaws.{Rows, such, common-passed, verdict-first}
 use Rattle.theorems.proofs.SoundLaws.{Counts, sound-counts}
@@ -123,7 +123,7 @@ asked-next : (rows : List ℕ) (i : ℕ) → i < length rows / 3 → drop i (ask
 unfolding asked_in rows_lent
 asked-next rows i l =
     drop-cons (asked_in rows) i nothing (omega (arith, length-asked rows))
-    ∙ ap₂ (λ (q : Asked) (n : ℕ). q ∷ drop n (asked_in rows)) (get_d_tabulate (length rows / 3) (asked_at rows) i nothing l) (sym (add-one i))
+    ∙ ap₂ (λ (q : Asked) (n : ℕ). q ∷ drop n (asked_in rows)) (get_or-tabulate (length rows / 3) (asked_at rows) i nothing l) (sym (add-one i))
 
 -- ---- one more of them
 

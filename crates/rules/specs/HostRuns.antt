@@ -1,5 +1,5 @@
 -- Hosts that obey, run from the definitions: what they have after the runs of P1 to P10, which orders cannot be obeyed then, and what they have where they
--- stop in P3 and go on. A row: what the definitions give, and what it should be.
+-- stop in P3 and go on. A row: what the definitions give, and what it should be (proofs/HostRuns.antt, `host-examples`).
 -- Assumes nothing.
 use Rattle.std.specs.Prelude.{ℕ, false, length, take}
 use mathlib.Core.List.{List, [], ◌∷◌, ◌++◌, map, flat_map}
@@ -93,7 +93,7 @@ hosts =
     ∷ (after_p6.lock 0 ∷ (obey_again false p5 after_p6).lock 0 ∷ [], 65535 ∷ 4 ∷ [])
     ∷ []
 
--- ---- other orders of the orders let somebody in: user 2, who is on neither list
+-- ---- other orders of the orders let somebody in: user 2, who is on neither list (proofs/HostRuns.antt, `token-first-unsafe`, `encrypted-first-unsafe`)
 
 -- RULES 6.6 "if the token were published first, folder 1 would open for 2": after the token and the three orders before the lock
 unfoldable pub token_first : Store

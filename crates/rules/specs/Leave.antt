@@ -1,5 +1,5 @@
 -- A leave (RULES 5.12) run on small books: its orders, the lists and views after it, and what is refused. A row: what the definitions give, and what it
--- should be.
+-- should be (proofs/Leave.antt, `leave-examples`).
 -- Assumes nothing.
 use Rattle.std.specs.Prelude.{ℕ, false, length, take}
 use mathlib.Core.List.{List, [], ◌∷◌, map, flat_map}

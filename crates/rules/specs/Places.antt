@@ -1,4 +1,4 @@
--- What is wrong with bytes, and where, run on books for each number and each clause of the order. RULES 9.10, 9.11.
+-- What is wrong with bytes, and where, run on books for each number and each clause of the order. RULES 9.10, 9.11. Proved of them: proofs/Places.antt, `each-place`.
 -- Assumes nothing.
 use Rattle.std.specs.Prelude.{ℕ, List, [], ◌∷◌, ◌++◌, take, drop}
 use Rattle.std.proofs.Math.Option.{Option, some, none}

@@ -1,4 +1,5 @@
 // The rules of a sound book that speak of one layer. Each function answers the first row that breaks its rule.
+// Searches with a table of their own are not inlined: in one frame their tables would take more of a caller's stack than include/fenstubble.h says.
 ghost use Rattle.std.specs.Prelude.{◌≡◌, not, ◌*◌, ◌≤◌, ◌<◌, length};
 ghost use Rattle.sets.specs.Words.{people, bytes, set_in};
 ghost use Rattle.rules.specs.Lists.{first, up_to, numbered};

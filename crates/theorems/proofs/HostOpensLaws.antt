@@ -19,7 +19,7 @@ use Rattle.rules.specs.Sound.{sound, unequal}
 use Rattle.rules.specs.Bytes.{Tables}
 use Rattle.rules.specs.Runs.{Kept, book_of, Call, run, Access, access, told, history}
 use Rattle.rules.specs.Host.{Store, graph_of, store_of, nothing_made, empty_store, HostKnows, start, hash, step, given, HostOpens, obey_run, not_read}
-use Rattle.theorems.proofs.ListLaws.{get_or-mem, get_d_tabulate, length-tabulate, pairwise-one}
+use Rattle.theorems.proofs.ListLaws.{get_or-mem, get_or-tabulate, length-tabulate, pairwise-one}
 use Rattle.theorems.proofs.LayerLaws.{Layered}
 use Rattle.theorems.proofs.LetInLaws.{own-there}
 use Rattle.theorems.proofs.SoundLaws.{sound-kept}
@@ -45,7 +45,7 @@ module _ {n : ℕ} {L : Layer} (g : Layered n L) (u : ℕ) where
 
   handed-own : u < n → get_or (graph_of n L).handed u 0 ≡ vertex_for L (single u)
   unfolding graph_of
-  handed-own un = get_d_tabulate n (λ u. vertex_for L (single u)) u 0 un
+  handed-own un = get_or-tabulate n (λ u. vertex_for L (single u)) u 0 un
 
   to-knows : {k : Key} → HostKnows (graph_of n L) u k → Knows L u k
   unfolding graph_of
