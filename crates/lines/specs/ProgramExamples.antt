@@ -1,7 +1,7 @@
 -- The request program run from its definition: the sample of RULES 10.9, P9 and P10, and both sides of the clauses about lines. A row: what the program prints, and what
 -- it should.
 -- Assumes nothing.
-use Rattle.std.specs.Prelude.{ℕ, ◌+◌, refl, List, [], ◌∷◌, ◌++◌}
+use Rattle.std.specs.Prelude.{ℕ, refl, List, [], ◌∷◌, ◌++◌}
 use Prim.Native.String.{String}
 use Rattle.sets.specs.Sets.{size_in, size}
 use Rattle.rows.specs.Number.{joined}

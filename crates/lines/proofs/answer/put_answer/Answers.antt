@@ -1,6 +1,5 @@
 -- `lines::answer::put_answer` meets its contract. Assumes nothing.
 use native.Mathlib.Omega.{arith}
-use borrow.Author.Rules.{rules}
 use Rattle.lines.proofs.Texts.{no_room, put-accepted, put_refused}
 use Rattle.lines.proofs.answer.put_answer.Goals as goal
 

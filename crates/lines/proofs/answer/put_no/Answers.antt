@@ -2,7 +2,6 @@
 use mathlib.Core.Path.{◌∙◌}
 use native.Mathlib.Omega.{arith}
 use lib.ListN.{length-set}
-use borrow.Author.Rules.{rules}
 use Rattle.lines.proofs.Texts.{six, closed-text, no-text}
 use Rattle.lines.proofs.answer.put_no.Goals as goal
 

@@ -2,7 +2,6 @@
 use Prim.Native.Nat.{◌+◌, ◌≤◌}
 use native.Mathlib.Omega.{arith}
 use lib.ListN.{length, length-set}
-use borrow.Author.Rules.{rules}
 use Rattle.lines.proofs.Putting.{numeral-length, put_last}
 use Rattle.lines.proofs.answer.put_numeral.Goals as goal
 

@@ -3,7 +3,6 @@ use Prim.Native.Nat.{◌+◌, ◌*◌, ◌/◌, ◌≤◌}
 use mathlib.Core.Path.{◌∙◌}
 use native.Mathlib.Omega.{arith}
 use lib.ListN.{length, length-set}
-use borrow.Author.Rules.{rules}
 use Rattle.lines.proofs.Texts.{twenty-one, ok-text}
 use Rattle.lines.proofs.answer.put_ok.Goals as goal
 

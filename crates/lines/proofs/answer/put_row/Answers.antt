@@ -2,7 +2,6 @@
 use mathlib.Core.Path.{sym, ◌∙◌}
 use native.Mathlib.Omega.{arith}
 use lib.ListN.{length-set}
-use borrow.Author.Rules.{rules}
 use Rattle.lines.proofs.Texts.{six, letter, row_open, row_plain}
 use Rattle.lines.proofs.answer.put_row.Goals as goal
 

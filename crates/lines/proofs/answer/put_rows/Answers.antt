@@ -1,10 +1,8 @@
 -- `lines::answer::put_rows` meets its contract. The invariant: a text that goes on from here with the rows left is the text of all rows. Assumes nothing.
-use Prim.Native.Nat.{ℕ, ◌+◌, ◌*◌, ◌-◌, ◌/◌, ◌≤◌}
-use mathlib.Core.Path.{◌≡◌, refl, ◌∙◌}
-use mathlib.Core.List.{List}
+use Prim.Native.Nat.{◌+◌}
+use mathlib.Core.Path.{refl, ◌∙◌}
 use native.Mathlib.Omega.{arith}
-use lib.ListN.{length, drop, get_or}
-use Rattle.lines.specs.Answer.{rows_text, Puts}
+use lib.ListN.{get_or}
 use Rattle.lines.proofs.Putting.{put-none, put_then}
 use Rattle.lines.proofs.Texts.{row-long, rows_next, rows-done}
 use Rattle.lines.proofs.answer.put_rows.Goals as goal

@@ -1,11 +1,8 @@
 use Prim.Native.Nat.{ℕ, ◌+◌, ◌*◌, ◌-◌, ◌/◌, ◌≤◌}
-use mathlib.Core.Path.{◌≡◌, refl, ◌∙◌}
+use mathlib.Core.Path.{◌≡◌}
 use mathlib.Core.List.{List}
-use native.Mathlib.Omega.{arith}
-use lib.ListN.{length, drop, get_or}
+use lib.ListN.{length, drop}
 use Rattle.lines.specs.Answer.{rows_text, Puts}
-use Rattle.lines.proofs.Putting.{put-none, put_then}
-use Rattle.lines.proofs.Texts.{row-long, rows_next, rows-done}
 use Rattle.lines.proofs.answer.put_rows.Given as goal
 
 abbrev pub invariant-loop-k : goal.invariant-loop-k

@@ -1,11 +1,8 @@
 -- `lines::request::above_of` meets its contract. The invariant: none of those passed is above 63. Assumes nothing.
-use Prim.Native.Nat.{◌≤◌, ◌-◌}
-use mathlib.Core.Path.{◌≡◌, refl, ◌∙◌}
+use mathlib.Core.Path.{refl, ◌∙◌}
 use native.Mathlib.Omega.{arith}
 use lib.Dec.{leb}
-use lib.ListN.{length, drop}
 use borrow.Author.Tests.{le-leb, lt-leb}
-use Rattle.rules.specs.Lists.{some}
 use Rattle.lines.specs.Request.{above}
 use Rattle.lines.proofs.Passed.{some-hit, some-miss, some_end}
 use Rattle.lines.proofs.request.above_of.Goals as goal

@@ -1,12 +1,8 @@
 use Prim.Native.Nat.{◌≤◌, ◌-◌}
-use mathlib.Core.Path.{◌≡◌, refl, ◌∙◌}
-use native.Mathlib.Omega.{arith}
+use mathlib.Core.Path.{◌≡◌}
 use lib.Dec.{leb}
 use lib.ListN.{length, drop}
-use borrow.Author.Tests.{le-leb, lt-leb}
 use Rattle.rules.specs.Lists.{some}
-use Rattle.lines.specs.Request.{above}
-use Rattle.lines.proofs.Passed.{some-hit, some-miss, some_end}
 use Rattle.lines.proofs.request.above_of.Given as goal
 
 abbrev pub invariant-loop-i : goal.invariant-loop-i

@@ -1,11 +1,8 @@
 use Prim.Native.Nat.{◌≤◌, ◌-◌}
-use mathlib.Core.Path.{◌≡◌, refl, sym, ◌∙◌}
-use native.Mathlib.Omega.{arith}
+use mathlib.Core.Path.{◌≡◌}
 use lib.Dec.{eqb}
 use lib.ListN.{length, drop}
-use borrow.Author.Tests.{eq-eqb, ne_eqb}
 use Rattle.rules.specs.Lists.{some}
-use Rattle.lines.proofs.Passed.{some-hit, some-miss, some_end}
 use Rattle.lines.proofs.request.among.Given as goal
 
 abbrev pub invariant-loop-i : goal.invariant-loop-i

@@ -1,5 +1,4 @@
 -- `lines::request::exactly` meets its contract. Assumes nothing.
-use borrow.Author.Rules.{rules}
 use borrow.Author.Tests.{eq-eqb, ne_eqb}
 use Rattle.lines.specs.Request.{exactly}
 use Rattle.lines.proofs.request.exactly.Goals as goal

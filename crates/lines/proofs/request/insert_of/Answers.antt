@@ -1,6 +1,5 @@
 -- `lines::request::insert_of` meets its contract. Assumes nothing.
 use mathlib.Core.Path.{sym, ◌∙◌}
-use borrow.Author.Rules.{rules}
 use Rattle.lines.specs.Request.{insert_of}
 use Rattle.lines.proofs.request.insert_of.Goals as goal
 

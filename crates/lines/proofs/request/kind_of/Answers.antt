@@ -1,6 +1,5 @@
 -- `lines::request::kind_of` meets its contract. Assumes nothing.
 use mathlib.Core.Path.{sym, ◌∙◌}
-use borrow.Author.Rules.{rules}
 use Rattle.rules.specs.Lists.{first}
 use Rattle.lines.specs.Request.{kind_of, words}
 use Rattle.lines.proofs.request.kind_of.Goals as goal

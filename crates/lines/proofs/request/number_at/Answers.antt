@@ -1,6 +1,5 @@
 -- `lines::request::number_at` meets its contract. Assumes nothing.
 use mathlib.Core.Path.{sym}
-use borrow.Author.Rules.{rules}
 use Rattle.lines.proofs.Passed.{none-at}
 use Rattle.lines.proofs.request.number_at.Goals as goal
 

@@ -1,11 +1,9 @@
 -- `lines::request::number_in` meets its contract. The invariant: the bytes passed are digits, and n is their number. Assumes nothing.
-use Prim.Native.Nat.{◌≤◌, ◌<◌, ◌-◌, ◌^◌}
-use mathlib.Core.Path.{◌≡◌, refl, sym, ap, ◌∙◌}
+use Prim.Native.Nat.{◌-◌}
+use mathlib.Core.Path.{refl, sym, ap, ◌∙◌}
 use native.Mathlib.Omega.{arith}
-use lib.ListN.{length, drop, get_or}
-use borrow.Author.Tests.{not-true, not-false}
-use Rattle.rules.specs.Lists.{every}
-use Rattle.lines.specs.Request.{digit, value_from}
+use lib.ListN.{get_or}
+use Rattle.lines.specs.Request.{digit}
 use Rattle.lines.specs.declared.request.Decimal.TheVariants.{Is}
 use Rattle.lines.proofs.Passed.{every-hit, every-miss, every-end, value-next, value-end, shape-length, bad-shape, bad-digit, good, low, high, is_digit, more-digits, few-digits}
 use Rattle.lines.proofs.request.number_in.Goals as goal

@@ -1,12 +1,8 @@
 use Prim.Native.Nat.{◌≤◌, ◌<◌, ◌-◌, ◌^◌}
-use mathlib.Core.Path.{◌≡◌, refl, sym, ap, ◌∙◌}
-use native.Mathlib.Omega.{arith}
-use lib.ListN.{length, drop, get_or}
-use borrow.Author.Tests.{not-true, not-false}
+use mathlib.Core.Path.{◌≡◌}
+use lib.ListN.{length, drop}
 use Rattle.rules.specs.Lists.{every}
 use Rattle.lines.specs.Request.{digit, value_from}
-use Rattle.lines.specs.declared.request.Decimal.TheVariants.{Is}
-use Rattle.lines.proofs.Passed.{every-hit, every-miss, every-end, value-next, value-end, shape-length, bad-shape, bad-digit, good, low, high, is_digit, more-digits, few-digits}
 use Rattle.lines.proofs.request.number_in.Given as goal
 
 abbrev pub invariant-loop-i : goal.invariant-loop-i

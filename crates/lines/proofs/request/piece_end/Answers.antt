@@ -1,10 +1,7 @@
 -- `lines::request::piece_end` meets its contract. The invariant: no space was passed. Assumes nothing.
-use Prim.Native.Nat.{◌+◌, ◌≤◌, ◌-◌}
-use mathlib.Core.Path.{◌≡◌, refl}
+use mathlib.Core.Path.{refl}
 use native.Mathlib.Omega.{arith}
-use lib.ListN.{length, drop}
 use borrow.Author.Tests.{eq-eqb, ne_eqb}
-use Rattle.rules.specs.Lists.{first}
 use Rattle.lines.specs.Reading.{space}
 use Rattle.lines.proofs.Passed.{first-hit, first-miss, first-end}
 use Rattle.lines.proofs.request.piece_end.Goals as goal

@@ -1,11 +1,8 @@
 use Prim.Native.Nat.{◌+◌, ◌≤◌, ◌-◌}
-use mathlib.Core.Path.{◌≡◌, refl}
-use native.Mathlib.Omega.{arith}
+use mathlib.Core.Path.{◌≡◌}
 use lib.ListN.{length, drop}
-use borrow.Author.Tests.{eq-eqb, ne_eqb}
 use Rattle.rules.specs.Lists.{first}
 use Rattle.lines.specs.Reading.{space}
-use Rattle.lines.proofs.Passed.{first-hit, first-miss, first-end}
 use Rattle.lines.proofs.request.piece_end.Given as goal
 
 abbrev pub invariant-loop-i : goal.invariant-loop-i

@@ -4,7 +4,6 @@ use mathlib.Core.Path.{sym}
 use native.Mathlib.Omega.{arith}
 use lib.ListN.{length}
 use lib.Seq.{length-take-le}
-use borrow.Author.Rules.{rules}
 use Rattle.lines.proofs.Rows.{too-long, word-within, rest-starts, line-asks}
 use Rattle.lines.proofs.request.read_line.Goals as goal
 

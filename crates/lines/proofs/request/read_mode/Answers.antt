@@ -1,6 +1,5 @@
 -- `lines::request::read_mode` meets its contract. Assumes nothing.
 use mathlib.Core.Path.{sym, ◌∙◌}
-use borrow.Author.Rules.{rules}
 use Rattle.rules.specs.Lists.{first}
 use Rattle.lines.specs.Request.{first_line, mode_of, modes}
 use Rattle.lines.proofs.request.read_mode.Goals as goal

@@ -1,13 +1,12 @@
 -- `lines::request::read_numbers` meets its contract. The invariant: the numbers read stand in front of those of the pieces still to come. Assumes nothing.
-use Prim.Native.Nat.{◌+◌, ◌≤◌, ◌<◌, ◌-◌}
-use mathlib.Core.Path.{◌≡◌, refl, sym, ◌∙◌}
+use Prim.Native.Nat.{◌≤◌, ◌<◌}
+use mathlib.Core.Path.{refl, sym, ◌∙◌}
 use native.Mathlib.Omega.{arith}
-use lib.ListN.{length, take, drop, get_or, drop_of_length-le, length-set}
-use borrow.Author.Rules.{rules}
+use lib.ListN.{length, take, drop_of_length-le, length-set}
 use Rattle.rules.specs.Lists.{every}
 use Rattle.lines.specs.Request.{pieces}
 use Rattle.lines.specs.Reading.{behind, numbers_of}
-use Rattle.lines.proofs.Pieces.{next-spaced, next-within, onto, onto-first, onto-none, turn-bad, turn-good, turn-long}
+use Rattle.lines.proofs.Pieces.{next-spaced, next-within, onto-first, onto-none, turn-bad, turn-good, turn-long}
 use Rattle.lines.proofs.request.read_numbers.Goals as goal
 
 pub loop-at-init : goal.loop-at-init

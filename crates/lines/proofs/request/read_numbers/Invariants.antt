@@ -1,12 +1,8 @@
-use Prim.Native.Nat.{◌+◌, ◌≤◌, ◌<◌, ◌-◌}
-use mathlib.Core.Path.{◌≡◌, refl, sym, ◌∙◌}
-use native.Mathlib.Omega.{arith}
-use lib.ListN.{length, take, drop, get_or, drop_of_length-le, length-set}
-use borrow.Author.Rules.{rules}
-use Rattle.rules.specs.Lists.{every}
-use Rattle.lines.specs.Request.{pieces}
+use Prim.Native.Nat.{◌+◌, ◌≤◌, ◌-◌}
+use mathlib.Core.Path.{◌≡◌}
+use lib.ListN.{length, take, drop, get_or}
 use Rattle.lines.specs.Reading.{behind, numbers_of}
-use Rattle.lines.proofs.Pieces.{next-spaced, next-within, onto, onto-first, onto-none, turn-bad, turn-good, turn-long}
+use Rattle.lines.proofs.Pieces.{onto}
 use Rattle.lines.proofs.request.read_numbers.Given as goal
 
 abbrev pub invariant-loop-at : goal.invariant-loop-at

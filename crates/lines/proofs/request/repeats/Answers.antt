@@ -1,9 +1,6 @@
 -- `lines::request::repeats` meets its contract. The invariant: none of those passed comes again. Assumes nothing.
-use Prim.Native.Nat.{◌≤◌, ◌-◌}
-use mathlib.Core.Path.{◌≡◌, refl, sym, ◌∙◌}
+use mathlib.Core.Path.{refl, sym, ◌∙◌}
 use native.Mathlib.Omega.{arith}
-use lib.ListN.{length, drop}
-use Rattle.lines.specs.Request.{twice}
 use Rattle.lines.proofs.Passed.{twice-hit, twice-miss, twice-end, rest-lent}
 use Rattle.lines.proofs.request.repeats.Goals as goal
 

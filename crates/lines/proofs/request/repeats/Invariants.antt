@@ -1,9 +1,7 @@
 use Prim.Native.Nat.{◌≤◌, ◌-◌}
-use mathlib.Core.Path.{◌≡◌, refl, sym, ◌∙◌}
-use native.Mathlib.Omega.{arith}
+use mathlib.Core.Path.{◌≡◌}
 use lib.ListN.{length, drop}
 use Rattle.lines.specs.Request.{twice}
-use Rattle.lines.proofs.Passed.{twice-hit, twice-miss, twice-end, rest-lent}
 use Rattle.lines.proofs.request.repeats.Given as goal
 
 abbrev pub invariant-loop-i : goal.invariant-loop-i

@@ -4,7 +4,6 @@ use mathlib.Core.Path.{sym, ◌∙◌, ap}
 use native.Mathlib.Omega.{arith}
 use lib.ListN.{length}
 use lib.Seq.{length-take-le}
-use borrow.Author.Rules.{rules}
 use Rattle.lines.specs.Reading.{behind, got, counted}
 use Rattle.lines.specs.declared.request.Numbers.{Numbers}
 use Rattle.lines.proofs.Rows.{asks-bad, asks-good}

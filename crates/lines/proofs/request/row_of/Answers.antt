@@ -1,7 +1,6 @@
 -- `lines::request::row_of` meets its contract. Assumes nothing.
 use mathlib.Core.Path.{sym, ◌∙◌}
 use native.Mathlib.Omega.{arith}
-use borrow.Author.Rules.{rules}
 use Rattle.lines.specs.Request.{row_of}
 use Rattle.lines.proofs.Rows.{row-pair, no_word}
 use Rattle.lines.proofs.request.row_of.Goals as goal

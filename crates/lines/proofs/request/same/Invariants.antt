@@ -1,10 +1,7 @@
 use Prim.Native.Nat.{◌≤◌, ◌-◌}
-use mathlib.Core.Path.{◌≡◌, refl, sym, ◌∙◌}
-use native.Mathlib.Omega.{arith}
-use lib.ListN.{length, drop, drop_of_length-le}
-use borrow.Author.Tests.{eq-eqb, ne_eqb}
+use mathlib.Core.Path.{◌≡◌}
+use lib.ListN.{length, drop}
 use Rattle.lines.specs.Request.{same}
-use Rattle.lines.proofs.Passed.{same_next, same-lengths}
 use Rattle.lines.proofs.request.same.Given as goal
 
 abbrev pub invariant-loop-i : goal.invariant-loop-i

@@ -1,12 +1,9 @@
 -- `lines::request::users_of` meets its contract. The invariant: the users are those gathered and those still to come. Assumes nothing.
-use Prim.Native.Nat.{◌≤◌, ◌-◌}
-use mathlib.Core.Path.{◌≡◌, sym, ◌∙◌}
-use mathlib.Core.Logic.{⊎_elim}
+use Prim.Native.Nat.{◌≤◌}
+use mathlib.Core.Path.{sym, ◌∙◌}
 use native.Mathlib.Omega.{arith}
-use borrow.Author.Rules.{rules}
 use lib.Bits.{or_zero_l, or_zero_r}
-use lib.ListN.{length, drop, drop_of_length-le}
-use Rattle.sets.specs.Sets.{union}
+use lib.ListN.{length, drop_of_length-le}
 use Rattle.sets.specs.Words.{set_in}
 use Rattle.lines.specs.Request.{users}
 use Rattle.lines.proofs.Passed.{users-more, users-other}

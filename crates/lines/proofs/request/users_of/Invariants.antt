@@ -1,14 +1,9 @@
 use Prim.Native.Nat.{◌≤◌, ◌-◌}
-use mathlib.Core.Path.{◌≡◌, sym, ◌∙◌}
-use mathlib.Core.Logic.{⊎_elim}
-use native.Mathlib.Omega.{arith}
-use borrow.Author.Rules.{rules}
-use lib.Bits.{or_zero_l, or_zero_r}
-use lib.ListN.{length, drop, drop_of_length-le}
+use mathlib.Core.Path.{◌≡◌}
+use lib.ListN.{length, drop}
 use Rattle.sets.specs.Sets.{union}
 use Rattle.sets.specs.Words.{set_in}
 use Rattle.lines.specs.Request.{users}
-use Rattle.lines.proofs.Passed.{users-more, users-other}
 use Rattle.lines.proofs.request.users_of.Given as goal
 
 abbrev pub invariant-loop-i : goal.invariant-loop-i
