@@ -190,7 +190,7 @@ extern "C" {
 #define FENSTUBBLE_CHAIN_ROWS 63
 #define FENSTUBBLE_OPEN_ROWS (2 * FENSTUBBLE_CHAIN_ROWS)
 
-/* stack of a call: measured, and rounded up to a whole KB */
+/* stack of a call, at most: measured */
 #define FENSTUBBLE_STACK_BYTES (38 * 1024)
 
 /* ---- numbers and their meaning */

@@ -1,11 +1,11 @@
 -- The laws of rows of numbers that become records. Assumes nothing.
-use Prim.Native.Nat.{ℕ, suc, ◌+◌, ◌*◌, ◌<◌}
+use Prim.Native.Nat.{ℕ, suc, ◌+◌, ◌*◌, ◌≤◌, ◌<◌}
 use mathlib.Core.Path.{◌≡◌, refl, sym, ap, ap₂, ◌∙◌}
 use mathlib.Core.List.{List, [], ◌∷◌, ◌++◌, append_assoc}
 use native.Mathlib.Nat.{add-zero}
 use native.Mathlib.Numerals.{add-one}
 use native.Mathlib.Omega.{arith}
-use lib.ListN.{length, take, drop, get_or, set, replicate, length-append, length-replicate}
+use lib.ListN.{length, take, drop, get_or, set, replicate, length-append, length-drop, length-replicate}
 use lib.Seq.{take_all, take-suc, get_or-take, get_or-drop, drop-cons, set_at}
 use Rattle.rows.specs.Number.{stored, rows_of}
 use Rattle.rows.proofs.Table.{length-rows, row_at, rows-front}
@@ -51,6 +51,10 @@ over-more list rows i h =
     rw (one_more i rows, length-append, n, add-one, drop-cons list i zero_order h)
     (set_at (orders_in i rows) (get_or list i zero_order) (drop (suc i) list) x i n ∙ sym (append_assoc (orders_in i rows) (x ∷ []) (drop (suc i) list)))
 
+pub over-length : (list : List Order) (rows : List ℕ) (i : ℕ) → i ≤ length list → length (over (orders_in i rows) list) ≡ length list
+unfolding over
+over-length list rows i h = simp (length-append, length-drop, length-orders-in) (omega arith)
+
 -- orders that were stored as rows of numbers are read back
 pub orders-back : (os : List Order) (rows : List ℕ) → orders_in (length os) (stored 0 (order_rows os) rows) ≡ os
 unfolding stored
@@ -60,6 +64,10 @@ orders-back os rows = orders-read os (drop (0 + length (order_rows os)) rows)
 
 unfoldable pub zeros : List ℕ
 zeros = replicate most_numbers 0
+
+pub zeros-are : replicate most_numbers 0 ≡ zeros
+unfolding zeros
+zeros-are = refl
 
 pub zeros-length : length zeros ≡ most_numbers
 unfolding zeros

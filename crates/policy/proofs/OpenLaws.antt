@@ -3,7 +3,7 @@
 use Prim.Native.Nat.{ℕ, ◌+◌, ◌-◌, ◌≤◌, ◌<◌}
 use mathlib.Core.Path.{◌≡◌, refl, sym, ap, ap₂, ◌∙◌}
 use mathlib.Core.Bool.{Bool, true, false, ◌&&◌, not}
-use mathlib.Core.Logic.{inl, inr, ◌≢◌}
+use mathlib.Core.Logic.{◌⊎◌, inl, inr, ◌≢◌}
 use mathlib.Core.List.{List, [], ◌∷◌, ◌++◌, append-nil}
 use mathlib.Core.Option.{Option, some, none}
 use native.Mathlib.Omega.{arith}
@@ -265,6 +265,12 @@ module _ (h : Head) (iv it ov ot rs : List ℕ) where
                 ∙ stored-add 0 (inner_chain b u r) (outer_chain b u r) list k (omega arith) (omega (arith, both))
 
 -- ---- the refusals of open: 1, 11 and 10
+
+-- a view by its number among the cases, where it is not the first
+pub not-open : (number : View → ℕ) {v : View} → number Open ≡ 0 → (number v ≡ 1) ⊎ ((number v ≡ 2) ⊎ (number v ≡ 3)) → v ≢ Open
+not-open number {v} z (inl e) q = let a : number v ≡ 0 = ap number q ∙ z in omega arith
+not-open number {v} z (inr (inl e)) q = let a : number v ≡ 0 = ap number q ∙ z in omega arith
+not-open number {v} z (inr (inr e)) q = let a : number v ≡ 0 = ap number q ∙ z in omega arith
 
 closed : (v : View) → v ≢ Open → not (eqb (view_number v) 0) ≡ true
 closed Open n = absurd (n refl)
