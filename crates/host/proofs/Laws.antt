@@ -1,5 +1,6 @@
 -- What the C interface answers, from what the calls below it answer: each law is one way out of a call.
 -- Assumes nothing.
+use Rattle.std.specs.Prelude.{Result, Ok, Err}
 use Prim.Native.Nat.{ℕ, zero, suc, ◌≤◌, ◌<◌}
 use mathlib.Core.Path.{◌≡◌, refl, sym, ap, ap₂, ◌∙◌}
 use mathlib.Core.Bool.{Bool, true, false, not}
@@ -20,10 +21,6 @@ use Rattle.rules.specs.declared.Refusal.TheVariants.{NoSuch}
 use Rattle.rules.specs.declared.Denial.{Denial}
 use Rattle.rules.specs.declared.Denial.TheVariants.{Refused}
 use Rattle.rules.specs.declared.Fault.{Fault}
-use Rattle.rules.specs.declared.Loaded.{Loaded}
-use Rattle.rules.specs.declared.Loaded.TheVariants as loaded
-use Rattle.rules.specs.declared.Stored.{Stored}
-use Rattle.rules.specs.declared.Stored.TheVariants as written
 use Rattle.sound.specs.Check.{checked_by, checked}
 use Rattle.sound.specs.declared.Checked.{Checked}
 use Rattle.sound.specs.declared.Checked.TheVariants.{Sound, No}
@@ -90,7 +87,7 @@ section-refused bs k a m {n = n} {at = at} p ne = stretch-none bs k a m at n ne 
 
 -- ---- read
 
-read-by : (bs l : List ℕ) (t : Tables) {a : Loaded} {u : Tables} → head_length ≤ length l → loading a u ≡ read_call bs t → read_by a l u ≡ read_answer bs l t
+read-by : (bs l : List ℕ) (t : Tables) {a : Result Head Denial} {u : Tables} → head_length ≤ length l → loading a u ≡ read_call bs t → read_by a l u ≡ read_answer bs l t
 unfolding read_answer
 read-by bs l t n p = rw (le-ltb (length l) head_length n) (ap (λ (x : Load). read_by x.answer l x.tables) p)
 
@@ -98,21 +95,21 @@ pub read_short : (bs l : List ℕ) (t : Tables) → length l < head_length → l
 unfolding read_answer
 read_short bs l t n = rw (lt-ltb (length l) head_length n)
 
-pub read-refused : (bs l : List ℕ) (t : Tables) {a : Loaded} {u : Tables} {d : Denial} {r at : ℕ} → head_length ≤ length l → loading a u ≡ read_call bs t
-    → a ≡ loaded.No d → r ≡ denial_number d → at ≡ denial_place d → loaded_as r l u at ≡ read_answer bs l t
+pub read-refused : (bs l : List ℕ) (t : Tables) {a : Result Head Denial} {u : Tables} {d : Denial} {r at : ℕ} → head_length ≤ length l → loading a u ≡ read_call bs t
+    → a ≡ Err d → r ≡ denial_number d → at ≡ denial_place d → loaded_as r l u at ≡ read_answer bs l t
 unfolding read_by
 read-refused bs l t {u = u} n p is er ep =
-    ap₂ (λ (x y : ℕ). loaded_as x l u y) er ep ∙ sym (ap (λ (x : Loaded). read_by x l u) is) ∙ read-by bs l t n p
+    ap₂ (λ (x y : ℕ). loaded_as x l u y) er ep ∙ sym (ap (λ (x : Result Head Denial). read_by x l u) is) ∙ read-by bs l t n p
 
-pub read-given : (bs l : List ℕ) (t : Tables) {a : Loaded} {u : Tables} {h : Head} {m : List ℕ} → head_length ≤ length l → loading a u ≡ read_call bs t → a ≡ loaded.Is h
+pub read-given : (bs l : List ℕ) (t : Tables) {a : Result Head Denial} {u : Tables} {h : Head} {m : List ℕ} → head_length ≤ length l → loading a u ≡ read_call bs t → a ≡ Ok h
     → m ≡ stored 0 (head_numbers h) l → loaded_as 0 m u 0 ≡ read_answer bs l t
 unfolding read_by
 read-given bs l t {u = u} n p is em =
-    ap (λ (x : List ℕ). loaded_as 0 x u 0) em ∙ sym (ap (λ (x : Loaded). read_by x l u) is) ∙ read-by bs l t n p
+    ap (λ (x : List ℕ). loaded_as 0 x u 0) em ∙ sym (ap (λ (x : Result Head Denial). read_by x l u) is) ∙ read-by bs l t n p
 
 -- ---- write
 
-write-by : (l : List ℕ) (t : Tables) (b : List ℕ) (k : ℕ) {h : Head} {a : Stored} {d : List ℕ} → head_length ≤ length l → h ≡ head_from l → writing a d ≡ write_call h t b
+write-by : (l : List ℕ) (t : Tables) (b : List ℕ) (k : ℕ) {h : Head} {a : Result ℕ Refusal} {d : List ℕ} → head_length ≤ length l → h ≡ head_from l → writing a d ≡ write_call h t b
     → write_by a d k ≡ write_answer l t b k
 unfolding write_answer
 write-by l t b k n eh p =
@@ -122,13 +119,13 @@ pub write-short : (l : List ℕ) (t : Tables) (b : List ℕ) (k : ℕ) → lengt
 unfolding write_answer
 write-short l t b k n = rw (lt-ltb (length l) head_length n)
 
-pub write-refused : (l : List ℕ) (t : Tables) (b : List ℕ) (k : ℕ) {h : Head} {a : Stored} {d : List ℕ} {n : Refusal} {r : ℕ} → head_length ≤ length l
-    → h ≡ head_from l → writing a d ≡ write_call h t b → a ≡ written.No n → r ≡ number n → written_as r d k ≡ write_answer l t b k
+pub write-refused : (l : List ℕ) (t : Tables) (b : List ℕ) (k : ℕ) {h : Head} {a : Result ℕ Refusal} {d : List ℕ} {n : Refusal} {r : ℕ} → head_length ≤ length l
+    → h ≡ head_from l → writing a d ≡ write_call h t b → a ≡ Err n → r ≡ number n → written_as r d k ≡ write_answer l t b k
 unfolding write_by
 write-refused l t b k {d = d} n eh p is er =
-    ap (λ (x : ℕ). written_as x d k) er ∙ sym (ap (λ (x : Stored). write_by x d k) is) ∙ write-by l t b k n eh p
+    ap (λ (x : ℕ). written_as x d k) er ∙ sym (ap (λ (x : Result ℕ Refusal). write_by x d k) is) ∙ write-by l t b k n eh p
 
-pub write-given : (l : List ℕ) (t : Tables) (b : List ℕ) (k : ℕ) {h : Head} {a : Stored} {d : List ℕ} {n : ℕ} → head_length ≤ length l → h ≡ head_from l
-    → writing a d ≡ write_call h t b → a ≡ written.Bytes n → written_as 0 d n ≡ write_answer l t b k
+pub write-given : (l : List ℕ) (t : Tables) (b : List ℕ) (k : ℕ) {h : Head} {a : Result ℕ Refusal} {d : List ℕ} {n : ℕ} → head_length ≤ length l → h ≡ head_from l
+    → writing a d ≡ write_call h t b → a ≡ Ok n → written_as 0 d n ≡ write_answer l t b k
 unfolding write_by
-write-given l t b k {d = d} n eh p is = sym (ap (λ (x : Stored). write_by x d k) is) ∙ write-by l t b k n eh p
+write-given l t b k {d = d} n eh p is = sym (ap (λ (x : Result ℕ Refusal). write_by x d k) is) ∙ write-by l t b k n eh p

@@ -6,9 +6,9 @@ use Rattle.host.proofs.fenstubble_check.Goals as goal
 pub returns-then-head-lt-HEAD : goal.returns-then-head-lt-HEAD
 returns-then-head-lt-HEAD c = check-short _ _ c.if-head-lt-HEAD.true
 
-pub returns-in-No : goal.returns-in-No
-returns-in-No c =
-    check-refused _ _ (omega (arith, c.if-head-lt-HEAD.false)) c.head_of.ensures c.check-k.ensures c.in-No.is c.refusal_number.ensures
+pub returns-in-Err : goal.returns-in-Err
+returns-in-Err c =
+    check-refused _ _ (omega (arith, c.if-head-lt-HEAD.false)) c.head_of.ensures c.check-k.ensures c.in-Err.is c.refusal_number.ensures
 
 pub returns-in-Sound : goal.returns-in-Sound
 returns-in-Sound c =

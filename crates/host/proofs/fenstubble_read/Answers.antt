@@ -11,14 +11,14 @@ pub put_head-requires : goal.put_head-requires
 put_head-requires c =
     omega (arith, c.if-head-lt-HEAD.false)
 
-pub returns-in-No : goal.returns-in-No
-returns-in-No c =
+pub returns-in-Err : goal.returns-in-Err
+returns-in-Err c =
     let left : Tables = tables c.read-a.new.iv c.read-a.new.it c.read-a.new.ov c.read-a.new.ot c.read-a.new.rs in
-    read-refused _ _ _ {u = left} (omega (arith, c.if-head-lt-HEAD.false)) c.read-a.ensures c.in-No.is
+    read-refused _ _ _ {u = left} (omega (arith, c.if-head-lt-HEAD.false)) c.read-a.ensures c.in-Err.is
     c.denial_number.ensures
     c.denial_place.ensures
 
-pub returns-in-Is : goal.returns-in-Is
-returns-in-Is c =
+pub returns-in-Ok : goal.returns-in-Ok
+returns-in-Ok c =
     let left : Tables = tables c.read-a.new.iv c.read-a.new.it c.read-a.new.ov c.read-a.new.ot c.read-a.new.rs in
-    read-given _ _ _ {u = left} (omega (arith, c.if-head-lt-HEAD.false)) c.read-a.ensures c.in-Is.is c.put_head.ensures
+    read-given _ _ _ {u = left} (omega (arith, c.if-head-lt-HEAD.false)) c.read-a.ensures c.in-Ok.is c.put_head.ensures

@@ -6,10 +6,10 @@ use Rattle.host.proofs.fenstubble_write.Goals as goal
 pub returns-then-head-lt-HEAD : goal.returns-then-head-lt-HEAD
 returns-then-head-lt-HEAD c = write-short _ _ _ _ c.if-head-lt-HEAD.true
 
-pub returns-in-No : goal.returns-in-No
-returns-in-No c =
-    write-refused _ _ _ _ (omega (arith, c.if-head-lt-HEAD.false)) c.head_of.ensures c.write-a.ensures c.in-No.is c.refusal_number.ensures
+pub returns-in-Err : goal.returns-in-Err
+returns-in-Err c =
+    write-refused _ _ _ _ (omega (arith, c.if-head-lt-HEAD.false)) c.head_of.ensures c.write-a.ensures c.in-Err.is c.refusal_number.ensures
 
-pub returns-in-Bytes : goal.returns-in-Bytes
-returns-in-Bytes c =
-    write-given _ _ _ _ (omega (arith, c.if-head-lt-HEAD.false)) c.head_of.ensures c.write-a.ensures c.in-Bytes.is
+pub returns-in-Ok : goal.returns-in-Ok
+returns-in-Ok c =
+    write-given _ _ _ _ (omega (arith, c.if-head-lt-HEAD.false)) c.head_of.ensures c.write-a.ensures c.in-Ok.is

@@ -2,8 +2,8 @@
 use Rattle.host.proofs.RequestLaws.{all-refused, all_done}
 use Rattle.host.proofs.requests.told_all.Goals as goal
 
-pub returns-in-No : goal.returns-in-No
-returns-in-No c = all-refused _ _ c.in-No.is c.result_of.ensures
+pub returns-in-Err : goal.returns-in-Err
+returns-in-Err c = all-refused _ _ c.in-Err.is c.result_of.ensures
 
-pub returns-in-Done : goal.returns-in-Done
-returns-in-Done c = all_done _ _ c.in-Done.is c.put_head.ensures
+pub returns-in-Ok : goal.returns-in-Ok
+returns-in-Ok c = all_done _ _ c.in-Ok.is c.put_head.ensures
