@@ -54,12 +54,12 @@ pub fn head_of(head: &[u16]) -> Head
     ensures { result ≡ head_from head.now }
 {
     let mode = Mode(head[0]);
-    let users = Joined(head[1]);
-    let resources = Resources(head[2]);
-    let inner_vertices = InnerVertices(head[3]);
-    let inner_tokens = InnerTokens(head[4]);
-    let outer_vertices = OuterVertices(head[5]);
-    let outer_tokens = OuterTokens(head[6]);
+    let users = Joined::new(head[1]);
+    let resources = Resources::new(head[2]);
+    let inner_vertices = InnerVertices::new(head[3]);
+    let inner_tokens = InnerTokens::new(head[4]);
+    let outer_vertices = OuterVertices::new(head[5]);
+    let outer_tokens = OuterTokens::new(head[6]);
     let leavers = leavers_of(head);
     Head {
         mode,
