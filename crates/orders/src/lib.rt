@@ -2,7 +2,7 @@
 // stored as records.
 #![tactic(auto)]
 
-ghost use Rattle.std.specs.Prelude.{◌≡◌, ◌≤◌, ◌+◌, ◌*◌, length};
+ghost use Rattle.std.specs.Prelude.{◌≡◌, ◌<◌, ◌≤◌, ◌+◌, ◌*◌, length, set};
 ghost use Rattle.rules.specs.Bytes.{tables_mut, SameTables};
 ghost use Rattle.rules.specs.Calls.{changing, order_at, orders_in};
 ghost use Rattle.plan.specs.Judge.{request_of};
@@ -27,13 +27,21 @@ fn order_at(rows: &[u16], i: usize) -> Order
     }
 }
 
+// Row i of the numbers becomes record i: the thin function of RULES 14.9.
+fn store(records: &mut [Order], rows: &[u16], i: usize)
+    requires { (i * 3 + 3 ≤ length rows.now) × (i < length records.old) }
+    ensures { records.new ≡ set records.old i (order_at rows.now i) }
+{
+    records[i] = order_at(rows, i);
+}
+
 // The first n rows of the numbers become the first n records.
 fn store_rows(records: &mut [Order], rows: &[u16], n: usize)
     requires { (n * 3 ≤ length rows.now) × (n ≤ length records.old) }
     ensures { records.new ≡ over (orders_in n rows.now) records.old }
 {
     for i in 0..n {
-        records[i] = order_at(rows, i);
+        store(records, rows, i);
     }
 }
 
