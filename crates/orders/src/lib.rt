@@ -4,7 +4,7 @@
 
 ghost use Rattle.std.specs.Prelude.{◌≡◌, ◌<◌, ◌≤◌, ◌+◌, ◌*◌, length, set};
 ghost use Rattle.rules.specs.Bytes.{tables_mut, SameTables};
-ghost use Rattle.rules.specs.Calls.{changing, order_at, orders_in};
+ghost use Rattle.rules.specs.Calls.{changing, orders_in};
 ghost use Rattle.plan.specs.Judge.{request_of};
 ghost use Rattle.orders.specs.Records.{over, most_numbers, least, filled, recording, recorded};
 
@@ -14,25 +14,12 @@ use rules::{Applied, Head, Order, Refusal, TablesMut};
 // The most orders that a request gives, a leave's (`allowed-rows`).
 const MOST: usize = 4608;
 
-// Row i of the numbers.
-fn order_at(rows: &[u16], i: usize) -> Order
-    requires { i * 3 + 3 ≤ length rows.now }
-    ensures { result ≡ order_at rows.now i }
+// A row becomes record `at`: the thin function of RULES 14.9.
+fn store(records: &mut [Order], at: usize, kind: u16, a: u16, b: u16)
+    requires { at < length records.old }
+    ensures { records.new ≡ set records.old at (record { kind = kind; a = a; b = b }) }
 {
-    let at = i * Order::WIDTH;
-    Order {
-        kind: rows[at],
-        a: rows[at + 1],
-        b: rows[at + 2],
-    }
-}
-
-// Row i of the numbers becomes record i: the thin function of RULES 14.9.
-fn store(records: &mut [Order], rows: &[u16], i: usize)
-    requires { (i * 3 + 3 ≤ length rows.now) × (i < length records.old) }
-    ensures { records.new ≡ set records.old i (order_at rows.now i) }
-{
-    records[i] = order_at(rows, i);
+    records[at] = Order { kind, a, b };
 }
 
 // The first n rows of the numbers become the first n records.
@@ -41,7 +28,8 @@ fn store_rows(records: &mut [Order], rows: &[u16], n: usize)
     ensures { records.new ≡ over (orders_in n rows.now) records.old }
 {
     for i in 0..n {
-        store(records, rows, i);
+        let at = i * Order::WIDTH;
+        store(records, i, rows[at], rows[at + 1], rows[at + 2]);
     }
 }
 
