@@ -34,7 +34,7 @@ fn row(k: usize, found: Option<usize>) -> Result<(), Spot>
 }
 
 // What a search for someone without a vertex says.
-fn missing(found: Option<u16>) -> Result<(), Spot>
+fn missing(found: Option<usize>) -> Result<(), Spot>
     ensures { result ≡ missing_of found }
 {
     match found {

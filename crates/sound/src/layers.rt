@@ -20,7 +20,7 @@ pub fn strange_set(vertices: &[u8], n: usize, users: u16) -> Option<usize>
     requires { (n * bytes ≤ length vertices.now) × (users ≤ people) }
     ensures { result ≡ found_in n (first (λ s. not (joined_set users s)) (sets_in n vertices.now)) }
 {
-    (0..n).find(|&v| !set_of(vertices, n, v).below(users))
+    (0..n).position(|v| !set_of(vertices, n, v).below(users))
 }
 
 // S1: the first token of a kind above 1, or from or to a vertex that does not exist.
@@ -28,7 +28,7 @@ pub fn strange_token(tokens: &[u8], width: usize, n: usize, vertices: usize) -> 
     requires { (4 ≤ width) × (width ≤ 5) × (n * width ≤ length tokens.now) }
     ensures { result ≡ found_in n (first (λ t. not (placed_in vertices t)) (tokens_in width n tokens.now)) }
 {
-    (0..n).find(|&i| {
+    (0..n).position(|i| {
         let t = token_in(tokens, width, n, i);
         t.kind > 1 || t.from as usize >= vertices || t.to as usize >= vertices
     })
@@ -50,19 +50,19 @@ fn owners(vertices: &[u8], n: usize) -> Users
 }
 
 // S2: the first user without a vertex of their own.
-pub fn ownless(vertices: &[u8], n: usize, users: u16) -> Option<u16>
+pub fn ownless(vertices: &[u8], n: usize, users: u16) -> Option<usize>
     requires { (n * bytes ≤ length vertices.now) × (users ≤ people) }
     ensures { result ≡ found_in users (first (λ u. not (has_own_in (sets_in n vertices.now) u)) (up_to users)) }
 {
     let own = owners(vertices, n);
-    (0..users).find(|&u| !own.has(User(u)))
+    (0..users).position(|u| !own.has(User(u)))
 }
 
 // S2: the first token of kind 0 that enters an own vertex.
 pub fn enters_own(l: &Layer<'_>) -> Option<usize>
     ensures { result ≡ found_in l.now.shape.tokens (first (λ t. not (enters_group (layer_in l.now) t)) (layer_in l.now).tokens) }
 {
-    (0..l.shape.tokens).find(|&i| {
+    (0..l.shape.tokens).position(|i| {
         let t = l.token_at(i);
         t.kind != 1 && l.set_of(t.to as usize).size() == 1
     })
@@ -72,7 +72,7 @@ pub fn enters_own(l: &Layer<'_>) -> Option<usize>
 pub fn not_rising(l: &Layer<'_>) -> Option<usize>
     ensures { result ≡ found_in l.now.shape.tokens (first (λ t. not (rising_row (layer_in l.now) t)) (layer_in l.now).tokens) }
 {
-    (0..l.shape.tokens).find(|&i| {
+    (0..l.shape.tokens).position(|i| {
         let t = l.token_at(i);
         let from = l.set_of(t.from as usize);
         t.kind != 1 && (from.same(Users::empty()) || !from.inside(l.set_of(t.to as usize)))
@@ -83,7 +83,7 @@ pub fn not_rising(l: &Layer<'_>) -> Option<usize>
 pub fn not_lateral(l: &Layer<'_>) -> Option<usize>
     ensures { result ≡ found_in l.now.shape.tokens (first (λ t. not (lateral_row (layer_in l.now) t)) (layer_in l.now).tokens) }
 {
-    (0..l.shape.tokens).find(|&i| {
+    (0..l.shape.tokens).position(|i| {
         let t = l.token_at(i);
         let from = l.set_of(t.from as usize);
         t.kind != 0 && (from.size() != 1 || from.within(l.set_of(t.to as usize)))
@@ -120,7 +120,7 @@ pub fn ununited(l: &Layer<'_>) -> Option<usize>
     ensures { result ≡ found_in l.now.shape.vertices (first (λ v. not (united_vertex (layer_in l.now) v)) (numbered 0 (layer_in l.now).sets)) }
 {
     let all = l.unions(0);
-    (0..l.shape.vertices).find(|&v| !united(l.set_of(v), all[v]))
+    (0..l.shape.vertices).position(|v| !united(l.set_of(v), all[v]))
 }
 
 // S6: the first token between two vertices that an earlier one is between. (Where S4 and S6's other half hold, such rows are equal.)

@@ -2,11 +2,11 @@
 -- Assumes nothing.
 use Rattle.std.proofs.Common.{rules, tests}
 use Rattle.rules.specs.Bytes.{sets_in}
-use Rattle.layer.proofs.Search.{found_number}
+use Rattle.layer.proofs.Search.{placed_number}
 use Rattle.sound.specs.Faults.{has_own_in}
 use Rattle.sound.proofs.layers.ownless.Goals as goal
 
 pub returns : goal.returns
 returns c =
     let owns = c.owners-own.ensures.owns in
-    found_number _ _ c.find.ensures.ran (λ i b q k. search rules) (λ i b q l k. search (rules, tests, owns))
+    placed_number _ _ c.position.ensures.ran (λ i b q k. search rules) (λ i b q l k. search (rules, tests, owns))

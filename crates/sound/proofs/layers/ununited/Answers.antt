@@ -9,7 +9,7 @@ use Rattle.layer.specs.Laid.{layer_of, sources_into}
 use Rattle.layer.specs.Lent.{layer_in}
 use Rattle.layer.proofs.Read.{length-sets}
 use Rattle.theorems.proofs.ListLaws.{length-numbered}
-use Rattle.layer.proofs.Search.{found_first}
+use Rattle.layer.proofs.Search.{placed_first}
 use Rattle.sound.specs.Faults.{united_by}
 use Rattle.sound.proofs.United.{vertex-at}
 use Rattle.sound.proofs.layers.ununited.Goals as goal
@@ -19,7 +19,7 @@ unfolding layer_of united_vertex set_of
 returns c =
     let l = c.args.l.now in
     let sets = sets_in l.shape.vertices l.vertices.now in
-    found_first _ _ (numbered 0 sets) (0, 0) (length-numbered 0 sets ∙ length-sets l.shape.vertices l.vertices.now) c.find.ensures.ran (λ i b q k. search rules)
+    placed_first _ _ (numbered 0 sets) (0, 0) (length-numbered 0 sets ∙ length-sets l.shape.vertices l.vertices.now) c.position.ensures.ran (λ i b q k. search rules)
     (λ i b q m k.
     let all = c.unions-all.ensures i (omega arith) in
     let told : b ≡ not (united_by (set_of (layer_in l) i) (sources_into (layer_in l) 0 i)) = search (rules, all) in

@@ -16,6 +16,7 @@ pub ununited-requires-2 : goal.ununited-requires-2
 ununited-requires-2 c =
     let b = c.args.self.now in
     outer-few b.head (tables_of b.tables) b.s1 c.outer.ensures.shape_value
+
 pub returns-in_err-row : goal.returns-in_err-row
 returns-in_err-row c =
     let k : c.from_residual.result ≡ Err c.in_err-row.field-0.0 = search rules in

@@ -24,6 +24,7 @@ equal_token-requires c =
       le_width = (o.laid.low, o.laid.high, o.laid.rows);
       ends = laid-ends o (outer-few b.head (tables_of b.tables) b.s1 c.outer-o.ensures.shape_value);
     }
+
 pub returns-in_err-row : goal.returns-in_err-row
 returns-in_err-row c =
     let k : c.from_residual.result ≡ Err c.in_err-row.field-0.0 = search rules in
