@@ -5,13 +5,13 @@ use Rattle.sets.specs.Sets.{has, minus, single}
 use Rattle.rules.specs.Book.{Resource}
 use Rattle.theorems.specs.Plan.{new_vertices, new_tokens}
 use Rattle.layer.specs.Seen.{seen_layer}
-use Rattle.plan.proofs.LeaveLaws.{tally-out, tally-in}
+use Rattle.plan.proofs.LeaveLaws.{list-out, list-in}
 use Rattle.plan.proofs.leave.leaver_rows.Goals as goal
 
 pub returns-then-not-has : goal.returns-then-not-has
 returns-then-not-has c =
     record {
-      value = tally-out (seen_layer c.args.l c.args.ov.now c.args.rs.now c.args.firsts.now) _ c.args.l.leaver.0
+      value = list-out (seen_layer c.args.l c.args.ov.now c.args.rs.now c.args.firsts.now) _ c.args.l.leaver.0
           (ap (λ (x : Resource). has x.list c.args.l.leaver.0) (sym c.resource_in-x.ensures) ∙ sym c.has.ensures ∙ c.if-not-has.true);
       vertices_bound = omega arith;
     }
@@ -22,7 +22,7 @@ returns c =
     let u = c.args.l.leaver.0 in
     let list = c.without.ensures ∙ ap (λ (x : Resource). minus x.list (single u)) c.resource_in-x.ensures in
     record {
-      value = tally-in L _ u
+      value = list-in L _ u
           (ap (λ (x : Resource). has x.list u) (sym c.resource_in-x.ensures) ∙ sym c.has.ensures ∙ c.if-not-has.false)
           (c.new_seen-o.ensures.vertices_value ∙ ap (new_vertices L) list)
           (c.new_seen-o.ensures.tokens_value ∙ ap (new_tokens L) list);

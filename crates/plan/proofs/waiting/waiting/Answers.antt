@@ -1,22 +1,16 @@
 -- `plan::waiting::waiting` meets its contract. Assumes nothing.
-use borrow.Author.Tests.{not-true, not-false}
+use borrow.Author.Tests.{not-false}
 use native.Mathlib.Omega.{arith}
 use Rattle.plan.proofs.WaitLaws.{waiting-full, waiting-held, waiting-some}
 use Rattle.plan.proofs.waiting.waiting.Goals as goal
+use Rattle.plan.proofs.waiting.waiting.Goals.{then-h-ne1-via-then-h-ne1, then-h-ne1-via-else-h-ne1+then-not-p}
 
-pub returns-then-h-ne1 : goal.returns-then-h-ne1
-returns-then-h-ne1 c =
-    record {
-      value = waiting-full _ _ _ _ _ c.if-h-ne1.true;
-      upper_bound = omega arith;
-    }
-
-pub returns-then-not-p : goal.returns-then-not-p
-returns-then-not-p c =
-    record {
-      value = waiting-held _ _ _ _ c.args.p (not-true _ c.if-not-p.true);
-      upper_bound = omega arith;
-    }
+pub returns-then-h-ne1-clause-value : goal.returns-then-h-ne1-clause-value
+returns-then-h-ne1-clause-value c =
+    elim c.then-h-ne1.branch [
+      | then-h-ne1-via-then-h-ne1 w ↦ waiting-full _ _ _ _ _ w.if-h-ne1.true
+      | then-h-ne1-via-else-h-ne1+then-not-p w ↦ waiting-held _ _ _ _ c.args.p w.if-not-p.true
+    ]
 
 pub returns : goal.returns
 returns c =
