@@ -32,7 +32,7 @@ use Rattle.theorems.proofs.AccessLaws.{users-of, work-access}
 use Rattle.theorems.proofs.CountLaws.{with_vertex-vertices, with_vertex-tokens}
 use Rattle.theorems.proofs.NeighbourLaws.{none-waits, none-waits-full}
 use Rattle.theorems.proofs.PlanLaws.{insert_agrees, insert-inner, insert-outer, insert-orders, insert-agrees, revoke-outer, revoke-inner, revoke-orders, grant-vertices, grant-tokens, grant-inner-tokens, grant-orders}
-use Rattle.layer.specs.Laid.{inner_shape, layer_of, no_resource}
+use Rattle.layer.specs.Laid.{no_resource}
 use Rattle.layer.specs.Make.{sets_only}
 use Rattle.layer.specs.declared.make.New.{New}
 use Rattle.plan.specs.declared.Plan.{Plan}
@@ -143,16 +143,16 @@ module _ (h : Head) (iv it ov ot rs : List ℕ) where
 
   -- ---- what is read in the tables is the book's
 
-  free_in : (l : ℕ) → (eqb h.mode.0 1 && holders_are (layer_of (inner_shape h) it iv) l) ≡ insert_free l b
-  unfolding insert_free holders_are layer_of book_in
+  free_in : (l : ℕ) → (eqb h.mode.0 1 && holders_are b.inner l) ≡ insert_free l b
+  unfolding insert_free holders_are book_in
   free_in l = refl
 
   insert-plan-is : (l : ℕ) → plan (insert_free l b) false 0 ≡ plan_of (inserts l) b
   unfolding plan_of
   insert-plan-is l = refl
 
-  grant-plan-is : (r u : ℕ) → grant_plan h.mode.0 (holders (layer_of (inner_shape h) it iv) (resource b r).inner) (resource b r).list u ≡ plan_of (grants r u) b
-  unfolding plan_of agreed holders_of layer_of book_in
+  grant-plan-is : (r u : ℕ) → grant_plan h.mode.0 (holders b.inner (resource b r).inner) (resource b r).list u ≡ plan_of (grants r u) b
+  unfolding plan_of agreed holders_of book_in
   grant-plan-is r u = refl
 
   insert-passed : (l : ℕ) → l < 2 ^ h.users.0 → apart l (set_in h.leavers) ≡ true → (l ≡ 0 → ⊥) → h.resources.0 < max_resources → verdict (own (inserts l) b) ≡ none
@@ -220,17 +220,17 @@ module _ (h : Head) (iv it ov ot rs : List ℕ) where
     -- ---- each request, with the callees' answers as premises
 
     module _ (room : ℕ) where
-      pub insert-judged : (l : ℕ) {free : Bool} {i : New} {s : Part} {a : After} {p : Plan} {j : Result Plan Refusal} → l < 2 ^ h.users.0 → apart l (set_in h.leavers) ≡ true → (l ≡ 0 → ⊥) → h.resources.0 < max_resources
-          → free ≡ (eqb h.mode.0 1 && holders_are (layer_of (inner_shape h) it iv) l)
+      pub insert-judged : (l : ℕ) {L : Layer} {free : Bool} {i : New} {s : Part} {a : After} {p : Plan} {j : Result Plan Refusal} → l < 2 ^ h.users.0 → apart l (set_in h.leavers) ≡ true → (l ≡ 0 → ⊥) → h.resources.0 < max_resources
+          → L ≡ b.inner → free ≡ (eqb h.mode.0 1 && holders_are L l)
           → i.vertices ≡ new_vertices (sets_only h.inner_vertices.0 iv) l → i.tokens ≡ new_tokens (sets_only h.inner_vertices.0 iv) l
           → s ≡ settled_part free book.none sets l
           → a ≡ after_of h i.tokens (i.vertices + i.tokens + 1) s
           → p ≡ plan free false 0 → j ≡ limited a room p → j ≡ judged (inserts l) b room
-      insert-judged l {free} {i} {s} {a} {p} lb here some' few ef ev et es ea ep ej =
+      insert-judged l {L} {free} {i} {s} {a} {p} lb here some' few eL ef ev et es ea ep ej =
           ej ∙ judged-limited (inserts l) b room a p passed (subst (Leaves (work (inserts l) b)) (sym after) (insert-leaves l lb)) planned
         where
           is_free : free ≡ insert_free l b
-          is_free = ef ∙ free_in l
+          is_free = ef ∙ ap (λ (M : Layer). eqb h.mode.0 1 && holders_are M l) eL ∙ free_in l
 
           passed : verdict (own (inserts l) b) ≡ none
           passed = insert-passed l lb here some' few
@@ -339,19 +339,19 @@ module _ (h : Head) (iv it ov ot rs : List ℕ) where
               after : a ≡ after_of h 0 0 (lock_part b.outer (revoked_list r u b) 1)
               after = ea ∙ ap (after_of h 0 0) (es ∙ lock-in l 1 ∙ ap (λ (k : ℕ). lock_part b.outer k 1) (el ∙ ap (λ (w : Resource). minus w.list (single u)) row))
 
-          pub grant-judged : {p : Plan} {s : Part} {a : After} {j : Result Plan Refusal} → has (set_in h.leavers) u ≡ false → y ≡ false
-              → p ≡ grant_plan h.mode.0 (holders (layer_of (inner_shape h) it iv) x.inner) x.list u
+          pub grant-judged : {L : Layer} {p : Plan} {s : Part} {a : After} {j : Result Plan Refusal} → has (set_in h.leavers) u ≡ false → y ≡ false
+              → L ≡ b.inner → p ≡ grant_plan h.mode.0 (holders L x.inner) x.list u
               → s ≡ grant_part h ov rs r u x p
               → a ≡ after_of h (cond p.token 1 0) (cond p.token 1 0) s
               → j ≡ limited a room p → j ≡ judged (grants r u) b room
           unfolding plan_of grant_part
-          grant-judged {p} {s} {a} g e ep es ea ej =
+          grant-judged {L} {p} {s} {a} g e eL ep es ea ej =
               ej
               ∙ judged-limited (grants r u) b room a p (grant-passed g e)
               (subst (Leaves (work (grants r u) b)) (sym after) (grant-leaves r u (such b u r exists).1 (such b u r exists).0 (test e))) planned
             where
               planned : p ≡ plan_of (grants r u) b
-              planned = ep ∙ ap (λ (w : Resource). grant_plan h.mode.0 (holders (layer_of (inner_shape h) it iv) w.inner) w.list u) row ∙ grant-plan-is r u
+              planned = ep ∙ ap (λ (M : Layer). grant_plan h.mode.0 (holders M x.inner) x.list u) eL ∙ ap (λ (w : Resource). grant_plan h.mode.0 (holders b.inner w.inner) w.list u) row ∙ grant-plan-is r u
 
               parted : s ≡ joint (group_part (length (waiters b r u)) b.outer (holders_of b r)) (settled_part (agreed r u b) (resource b r).outer b.outer (granted_list r u b))
               parted =

@@ -1,6 +1,6 @@
 -- The tally of a leave, resource by resource: the seen layer's sets are those of the layer that the revokes so far would leave.
 -- Assumes nothing.
-use Rattle.std.specs.Prelude.{Result, Ok, Err}
+use Rattle.std.specs.Prelude.{Result, Err}
 use Prim.Native.Nat.{ℕ, ◌+◌, ◌*◌, ◌≤◌, ◌<◌}
 use mathlib.Core.Path.{◌≡◌, refl, sym, ap, ap₂, ◌∙◌, subst}
 use mathlib.Core.Bool.{Bool, true, false, cond}
@@ -51,9 +51,10 @@ module _ (L : Layer) (list u : ℕ) where
   unfolding list_part
   list-out e = rw e
 
-  pub list-in : {v t : ℕ} → has list u ≡ true → v ≡ new_vertices L (minus list (single u)) → t ≡ new_tokens L (minus list (single u)) → part v t (v + t + 1) ≡ list_part L list u
+  pub list-in : {v t : ℕ} {p : Part} → has list u ≡ true → v ≡ new_vertices L (minus list (single u)) → t ≡ new_tokens L (minus list (single u)) → p ≡ part v t (v + t + 1)
+      → p ≡ list_part L list u
   unfolding list_part
-  list-in e p q = rw (e, p, q)
+  list-in e p q is = rw (e, ← p, ← q) is
 
 part-is : {a b c x y z : ℕ} → a ≡ x → b ≡ y → c ≡ z → part a b c ≡ part x y z
 part-is p q r = rw (p, q, r)
@@ -210,8 +211,8 @@ module _ (ov rs : List ℕ) (v n u : ℕ) where
     tallied-step e b both = tallied-next sets rows u d (omega (arith, length-resources n rs)) (omega arith) e b both
 
   -- after the last resource
-  pub tallied-all : {fs : List ℕ} {p : Part} → Tallied sets rows u fs p n → n ≤ max_resources → (p ≡ leave_part sets (left_in rows u n)) × Few p
-  tallied-all d few = (d.counts, omega (arith, d.vertices≤, d.tokens≤, d.orders≤))
+  pub tallied-all : {fs : List ℕ} {p : Part} {i : ℕ} → Tallied sets rows u fs p i → i ≡ n → n ≤ max_resources → (p ≡ leave_part sets (left_in rows u n)) × Few p
+  tallied-all d e few = (d.counts ∙ ap (λ (k : ℕ). leave_part sets (left_in rows u k)) e, omega (arith, d.vertices≤, d.tokens≤, d.orders≤))
 
 -- ---- the verdict
 

@@ -5,23 +5,24 @@ ghost use Rattle.rules.specs.Bytes.{tables_of, book_in};
 ghost use Rattle.rules.specs.declared.Refusal.TheVariants.{NoSuch};
 ghost use Rattle.rules.specs.Holders.{holders};
 ghost use Rattle.rules.specs.Refusals.{joins, inserts, grants, revokes, leaves};
-ghost use Rattle.layer.specs.Laid.{Laid, inner_shape, layer_of, resource_is};
+ghost use Rattle.layer.specs.Laid.{inner_shape, resource_is};
+ghost use Rattle.layer.specs.Lent.{layer_in};
 ghost use Rattle.layer.specs.Make.{sets_only};
 ghost use Rattle.plan.specs.Judge.{Ready, request_of, plan, judged, limited, holders_are, Few, part, lock_part, settled_part, group_part, joint, after_of, grant_part, grant_plan};
 
 use crate::leave::leave_part;
 use crate::waiting::waiting;
 use crate::{Plan, Request};
-use layer::holders::holders_of;
+use layer::laid::Layer;
 use layer::make::{New, new_rows};
-use layer::table::{Found, find_set, resource_in};
-use layer::walk::{Shape, inner_shape};
+use layer::table::{find_set, resource_in};
+use layer::walk::inner_shape;
 use rules::{
     Head, InnerTokens, InnerVertex, Joined, OuterTokens, OuterVertex, OuterVertices, Refusal,
     Resource, ResourceRow, Resources, Tables,
 };
-use std::ops::Add;
 use sets::{User, Users};
+use std::ops::Add;
 
 // The rows that a request would leave, and the orders it would give.
 #[derive(Clone, Copy)]
@@ -152,10 +153,12 @@ fn settled(h: Head, ov: &[u8], free: bool, outer: OuterVertex, list: Users) -> P
     if !free {
         return lock_rows(h, ov, list, 1);
     }
+    if outer.0 == OuterVertex::NONE {
+        return Part::NOTHING;
+    }
     Part {
-        vertices: 0,
-        tokens: 0,
-        orders: (outer.0 != OuterVertex::NONE) as usize,
+        orders: 1,
+        ..Part::NOTHING
     }
 }
 
@@ -173,11 +176,7 @@ fn with_neighbours(h: Head, ov: &[u8], n: usize, holders: Users, s: Part) -> Par
 
 // ---- join
 
-pub fn judge_join(
-    h: Head,
-    t: &Tables<'_>,
-    room: usize,
-) -> Result<Plan, Refusal>
+pub fn judge_join(h: Head, t: &Tables<'_>, room: usize) -> Result<Plan, Refusal>
     requires { Ready h (tables_of t.now) }
     ensures { result ≡ judged joins (book_in h (tables_of t.now)) room }
 {
@@ -192,43 +191,48 @@ pub fn judge_join(
 
 // ---- insert
 
-// The holders of inner vertex v.
-pub fn all_holders(iv: &[u8], it: &[u8], i: Shape, v: InnerVertex) -> Users
-    requires laid { Laid i it.now iv.now }
-    requires v_lt_vertices { v.0 < i.vertices }
-    ensures { set_in result ≡ holders (layer_of i it.now iv.now) v.0 }
+// The inner layer as it lies in the tables.
+pub fn inner_layer<'a>(h: Head, t: &Tables<'a>) -> Layer<'a>
+    requires { Ready h (tables_of t.now) }
+    ensures shape { result.shape ≡ inner_shape h }
+    ensures layer { layer_in result ≡ (book_in h (tables_of t.now)).inner }
 {
-    let k = holders_of(it, iv, i, v.0);
-    k.start.union(k.token)
-}
-
-// Whether the vertex for l has l for its holders: it is new, or no token lets in anyone else.
-fn holders_are(iv: &[u8], it: &[u8], i: Shape, l: Users) -> bool
-    requires laid { Laid i it.now iv.now }
-    requires vertices_bound { i.vertices < 65536 }
-    ensures { result ≡ holders_are (layer_of i it.now iv.now) (set_in l) }
-{
-    let found = find_set(iv, i.vertices, l);
-    match found {
-        Found::At(v) => all_holders(iv, it, i, InnerVertex(v as u16)).same(l),
-        Found::Nothing => true,
+    Layer {
+        vertices: t.inner_vertices,
+        tokens: t.inner_tokens,
+        shape: inner_shape(h),
     }
 }
 
-// Whether a folder with list l will have no outer key.
-fn insert_free(h: Head, iv: &[u8], it: &[u8], l: Users) -> bool
-    requires { Laid (inner_shape h) it.now iv.now }
-    ensures { result ≡ (eqb h.mode.0 1 && holders_are (layer_of (inner_shape h) it.now iv.now) (set_in l)) }
+// The holders of inner vertex v.
+pub fn all_holders(l: &Layer<'_>, v: InnerVertex) -> Users
+    requires { v.0 < l.now.shape.vertices }
+    ensures { set_in result ≡ holders (layer_in l.now) v.0 }
 {
-    h.mode.0 == 1 && holders_are(iv, it, inner_shape(h), l)
+    let k = l.holders_of(v.0);
+    k.start.union(k.token)
 }
 
-pub fn judge_insert(
-    h: Head,
-    t: &Tables<'_>,
-    l: Users,
-    room: usize,
-) -> Result<Plan, Refusal>
+// Whether the vertex for a list has the list for its holders: it is new, or no token lets in anyone else.
+fn holders_are(l: &Layer<'_>, list: Users) -> bool
+    requires { l.now.shape.vertices < 65536 }
+    ensures { result ≡ holders_are (layer_in l.now) (set_in list) }
+{
+    match find_set(l.vertices, l.shape.vertices, list) {
+        Some(v) => all_holders(l, InnerVertex(v as u16)).same(list),
+        None => true,
+    }
+}
+
+// Whether a folder with a list will have no outer key.
+fn insert_free(h: Head, l: &Layer<'_>, list: Users) -> bool
+    requires { l.now.shape.vertices < 65536 }
+    ensures { result ≡ (eqb h.mode.0 1 && holders_are (layer_in l.now) (set_in list)) }
+{
+    h.mode.0 == 1 && holders_are(l, list)
+}
+
+pub fn judge_insert(h: Head, t: &Tables<'_>, l: Users, room: usize) -> Result<Plan, Refusal>
     requires { Ready h (tables_of t.now) }
     ensures { result ≡ judged (inserts (set_in l)) (book_in h (tables_of t.now)) room }
 {
@@ -244,7 +248,7 @@ pub fn judge_insert(
     if h.resources.0 >= Resources::LIMIT {
         return Err(Refusal::ResourcesFull);
     }
-    let free = insert_free(h, t.inner_vertices, t.inner_tokens, l);
+    let free = insert_free(h, &inner_layer(h, t), l);
     let i = new_rows(t.inner_vertices, h.inner_vertices.0 as usize, l);
     let s = settled(h, t.outer_vertices, free, OuterVertex(OuterVertex::NONE), l);
     let a = rows_after(h, i.tokens, i.vertices + i.tokens + 1, s);
@@ -275,12 +279,11 @@ pub fn judge_revoke(
 // ---- grant
 
 // Whether the holders will be the list, whether u comes in, and the holders before.
-fn grant_plan(h: Head, iv: &[u8], it: &[u8], x: ResourceRow, u: User) -> Plan
-    requires laid { Laid (inner_shape h) it.now iv.now }
-    requires inner_bound { (x.inner.0 < h.inner_vertices.0) × (u.0 < people) }
-    ensures { result ≡ grant_plan h.mode.0 (holders (layer_of (inner_shape h) it.now iv.now) x.inner.0) (set_in x.list) u.0 }
+fn grant_plan(h: Head, l: &Layer<'_>, x: ResourceRow, u: User) -> Plan
+    requires { (x.inner.0 < l.now.shape.vertices) × (u.0 < people) }
+    ensures { result ≡ grant_plan h.mode.0 (holders (layer_in l.now) x.inner.0) (set_in x.list) u.0 }
 {
-    let holders = all_holders(iv, it, inner_shape(h), x.inner);
+    let holders = all_holders(l, x.inner);
     let after = holders.with(u);
     Plan {
         free: h.mode.0 == 1 && after.same(x.list.with(u)),
@@ -318,21 +321,16 @@ pub fn judge_grant(
     if x.list.has(u) {
         return Err(Refusal::Listed);
     }
-    let p = grant_plan(h, t.inner_vertices, t.inner_tokens, x, u);
+    let p = grant_plan(h, &inner_layer(h, t), x, u);
     let s = grant_part(h, t.outer_vertices, t.resources, r, u, x, p);
     // A kind 1 token and its order, or none.
-    let more = p.token as usize;
+    let more = usize::from(p.token);
     limits(rows_after(h, more, more, s), room, p)
 }
 
 // ---- leave
 
-pub fn judge_leave(
-    h: Head,
-    t: &Tables<'_>,
-    u: User,
-    room: usize,
-) -> Result<Plan, Refusal>
+pub fn judge_leave(h: Head, t: &Tables<'_>, u: User, room: usize) -> Result<Plan, Refusal>
     requires { Ready h (tables_of t.now) }
     ensures { result ≡ judged (leaves u.0) (book_in h (tables_of t.now)) room }
 {
@@ -347,12 +345,7 @@ pub fn judge_leave(
 }
 
 // The refusals of a request from 1 on, else its plan.
-pub fn judge(
-    h: Head,
-    t: &Tables<'_>,
-    q: Request,
-    room: usize,
-) -> Result<Plan, Refusal>
+pub fn judge(h: Head, t: &Tables<'_>, q: Request, room: usize) -> Result<Plan, Refusal>
     requires { Ready h (tables_of t.now) }
     ensures { result ≡ judged (request_of q) (book_in h (tables_of t.now)) room }
 {

@@ -1,18 +1,21 @@
 -- `plan::judge::judge_grant` meets its contract. Assumes nothing.
+use Rattle.std.proofs.lemmas.Result.{err_from_is_err_and}
 use Prim.Native.Nat.{◌<◌}
-use mathlib.Core.Path.{◌≡◌, sym, ◌∙◌}
+use mathlib.Core.Path.{◌≡◌, sym, ap, ◌∙◌}
 use mathlib.Core.Bool.{false}
 use native.Mathlib.Omega.{arith}
 use Rattle.sets.specs.Sets.{has}
 use Rattle.sets.specs.Words.{set_in}
-use Rattle.rules.specs.Bytes.{tables_of}
-use Rattle.plan.proofs.PartLaws.{there, users-within}
-use Rattle.plan.proofs.ReadyLaws.{Sizes, sizes, inner-laid, row-inner}
+use Rattle.layer.specs.declared.walk.Shape.{Shape}
+use Rattle.plan.proofs.PartLaws.{there, after-token, users-within}
+use Rattle.plan.proofs.ReadyLaws.{sizes, row-inner}
 use Rattle.plan.proofs.JudgeLaws.{grant-no-such, grant-left, grant-listed, grant-judged}
 use Rattle.plan.proofs.judge.judge_grant.Goals as goal
 
 pub returns-in_err-exist : goal.returns-in_err-exist
-returns-in_err-exist c = let h = c.from_residual in ?
+returns-in_err-exist c =
+    let p = err_from_is_err_and c.from_residual.result c.from_residual.ensures.1 in
+    rw (p.1, p.2) (grant-no-such _ _ _ _ _ _ c.requires _ _ _ c.exist.ensures c.in_err-exist.was)
 
 pub has-requires : goal.has-requires
 has-requires c =
@@ -41,10 +44,7 @@ returns-then-has-2 c =
 pub grant_plan-p-requires : goal.grant_plan-p-requires
 grant_plan-p-requires c =
     let exist : let a = c.args in (a.u.0 < a.h.users.0) × (a.r.0 < a.h.resources.0) = let a = c.args in there a.u.0 a.h.users.0 a.r.0 a.h.resources.0 c.exist.ensures c.in_ok-exist.was in
-    record {
-      laid = inner-laid _ _ _ _ _ _ c.requires;
-      inner_bound = (row-inner _ _ _ _ _ _ c.requires _ exist.1 c.resource_in-x.ensures, omega (arith, exist.0, (sizes _ _ _ _ _ _ c.requires).users≤));
-    }
+    omega (arith, ap (λ (s : Shape). s.vertices) c.inner_layer.ensures.shape, row-inner _ _ _ _ _ _ c.requires _ exist.1 c.resource_in-x.ensures, exist.0, (sizes _ _ _ _ _ _ c.requires).users≤)
 
 pub grant_part-s-requires : goal.grant_part-s-requires
 grant_part-s-requires c =
@@ -59,4 +59,4 @@ pub returns : goal.returns
 returns c =
     let stays : let a = c.args in has (set_in a.h.leavers) a.u.0 ≡ false = sym c.has.ensures ∙ c.if-has.false in
     grant-judged _ _ _ _ _ _ c.requires _ _ _ c.exist.ensures c.in_ok-exist.was c.resource_in-x.ensures c.has-2.ensures
-    stays c.if-has-2.false c.grant_plan-p.ensures c.grant_part-s.ensures.value c.rows_after.ensures c.limits.ensures
+    stays c.if-has-2.false c.inner_layer.ensures.layer c.grant_plan-p.ensures c.grant_part-s.ensures.value (after-token c.args.h _ _ c.from-more.ensures c.rows_after.ensures) c.limits.ensures

@@ -2,9 +2,8 @@
 use Prim.Native.Nat.{◌≤◌, ◌<◌}
 use mathlib.Core.Path.{sym, ◌∙◌}
 use native.Mathlib.Omega.{arith}
-use Rattle.rules.specs.Bytes.{tables_of}
 use Rattle.plan.proofs.PartLaws.{users-within}
-use Rattle.plan.proofs.ReadyLaws.{Sizes, sizes}
+use Rattle.plan.proofs.ReadyLaws.{sizes}
 use Rattle.plan.proofs.LeaveLaws.{leave-no-such, leave-left, leave-judged}
 use Rattle.plan.proofs.judge.judge_leave.Goals as goal
 

@@ -1,14 +1,16 @@
 -- `plan::judge::judge_revoke` meets its contract. Assumes nothing.
+use Rattle.std.proofs.lemmas.Result.{err_from_is_err_and}
 use Prim.Native.Nat.{◌<◌}
 use native.Mathlib.Omega.{arith}
-use Rattle.rules.specs.Bytes.{tables_of}
 use Rattle.plan.proofs.PartLaws.{there, users-within}
-use Rattle.plan.proofs.ReadyLaws.{Sizes, sizes}
+use Rattle.plan.proofs.ReadyLaws.{sizes}
 use Rattle.plan.proofs.JudgeLaws.{revoke-no-such, revoke-unlisted, revoke-judged}
 use Rattle.plan.proofs.judge.judge_revoke.Goals as goal
 
 pub returns-in_err-exist : goal.returns-in_err-exist
-returns-in_err-exist c = let h = c.from_residual in ?
+returns-in_err-exist c =
+    let p = err_from_is_err_and c.from_residual.result c.from_residual.ensures.1 in
+    rw (p.1, p.2) (revoke-no-such _ _ _ _ _ _ c.requires _ _ _ c.exist.ensures c.in_err-exist.was)
 
 pub resource_in-x-requires : goal.resource_in-x-requires
 resource_in-x-requires c =

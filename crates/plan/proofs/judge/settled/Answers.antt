@@ -1,7 +1,6 @@
 -- `plan::judge::settled` meets its contract. Assumes nothing.
-use Rattle.std.proofs.Common.{rules}
 use native.Mathlib.Omega.{arith}
-use Rattle.plan.proofs.PartLaws.{settled-lock, settled-free}
+use Rattle.plan.proofs.PartLaws.{settled-lock, settled-bare, settled-free}
 use Rattle.plan.proofs.judge.settled.Goals as goal
 
 pub returns-then-not-free : goal.returns-then-not-free
@@ -11,9 +10,16 @@ returns-then-not-free c =
       vertices_bound = omega (arith, c.lock_rows.ensures.vertices_bound);
     }
 
+pub returns-then-outer-eq-NONE : goal.returns-then-outer-eq-NONE
+returns-then-outer-eq-NONE c =
+    record {
+      value = settled-bare c.args.free _ _ _ (c.if-not-free.false) c.if-outer-eq-NONE.true;
+      vertices_bound = omega arith;
+    }
+
 pub returns : goal.returns
 returns c =
     record {
-      value = settled-free c.args.free _ _ _ c.if-not-free.false;
-      vertices_bound = search rules;
+      value = settled-free c.args.free _ _ _ (c.if-not-free.false) c.if-outer-eq-NONE.false;
+      vertices_bound = omega arith;
     }

@@ -1,5 +1,6 @@
 -- `plan::leave::leaver_rows` meets its contract. Assumes nothing.
 use mathlib.Core.Path.{sym, ap, ◌∙◌}
+use Rattle.std.proofs.Common.{rules}
 use native.Mathlib.Omega.{arith}
 use Rattle.sets.specs.Sets.{has, minus, single}
 use Rattle.rules.specs.Book.{Resource}
@@ -25,6 +26,7 @@ returns c =
       value = list-in L _ u
           (ap (λ (x : Resource). has x.list u) (sym c.resource_in-x.ensures) ∙ sym c.has.ensures ∙ c.if-not-has.false)
           (c.new_seen-o.ensures.vertices_value ∙ ap (new_vertices L) list)
-          (c.new_seen-o.ensures.tokens_value ∙ ap (new_tokens L) list);
-      vertices_bound = (c.new_seen-o.ensures.vertices_bound.0, c.new_seen-o.ensures.vertices_bound.1, omega arith);
+          (c.new_seen-o.ensures.tokens_value ∙ ap (new_tokens L) list)
+          c.locking.ensures;
+      vertices_bound = search rules;
     }
