@@ -43,14 +43,14 @@ pub struct Part {
 }
 
 impl Part {
-    pub const NOTHING: Part = Part {
+    pub(crate) const NOTHING: Part = Part {
         vertices: 0,
         tokens: 0,
         orders: 0,
     };
 
     // The rows of a vertex, and n re-locks with it.
-    pub fn locking(rows: New, n: usize) -> Part
+    pub(crate) fn locking(rows: New, n: usize) -> Part
         requires { (rows.vertices ≤ 1) × (rows.tokens ≤ people) × (n < 65536) }
         ensures { result ≡ part rows.vertices rows.tokens (rows.vertices + rows.tokens + n) }
     {

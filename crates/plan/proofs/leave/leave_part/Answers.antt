@@ -7,12 +7,11 @@ use Rattle.plan.proofs.leave.leave_part.Goals as goal
 pub loop-r-init : goal.loop-r-init
 loop-r-init c = tallied-none _ _ _ _ refl
 
-pub leaver_rows-more-requires : goal.leaver_rows-more-requires
-leaver_rows-more-requires c =
+pub invariant_of-l : goal.invariant_of-l
+invariant_of-l c =
     let few = c.requires.resources_le_max_resources in
     record {
       seen_in = tallied-seen _ _ _ _ _ c.loop-r.invariant c.loop-r-test.true few.0 c.requires.bytes_in_bounds.0 c.requires.bytes_in_bounds.1 few.1 few.2;
-      r_lt_resources = c.loop-r-test.true;
     }
 
 pub loop-r-preserved : goal.loop-r-preserved
