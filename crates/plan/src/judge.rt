@@ -205,7 +205,7 @@ fn holders_are(l: &Layer<'_>, list: Users) -> bool
     ensures { result ≡ holders_are (layer_in l.now) (set_in list) }
 {
     match find_set(l.vertices, l.shape.vertices, list) {
-        Some(v) => all_holders(l, InnerVertex(v as u16)).same(list),
+        Some(v) => all_holders(l, InnerVertex(v as u16)) == list,
         None => true,
     }
 }
@@ -215,7 +215,7 @@ fn insert_free(h: Head, l: &Layer<'_>, list: Users) -> bool
     requires { l.now.shape.vertices < 65536 }
     ensures { result ≡ (eqb h.mode.0 1 && holders_are (layer_in l.now) (set_in list)) }
 {
-    h.mode.0 == 1 && holders_are(l, list)
+    h.mode.is_delta() && holders_are(l, list)
 }
 
 // ---- grant
@@ -228,7 +228,7 @@ fn grant_plan(h: Head, l: &Layer<'_>, x: ResourceRow, u: User) -> Plan
     let holders = all_holders(l, x.inner);
     let after = holders.with(u);
     Plan {
-        free: h.mode.0 == 1 && after.same(x.list.with(u)),
+        free: h.mode.is_delta() && after == x.list.with(u),
         token: !holders.has(u),
         holders,
     }
@@ -271,7 +271,7 @@ impl SoundBook<'_> {
         if !l.apart(h.leavers) {
             return Err(Refusal::HasLeft);
         }
-        if l.same(Users::empty()) {
+        if l == Users::empty() {
             return Err(Refusal::EmptyList);
         }
         if h.resources.0 >= Resources::LIMIT {

@@ -26,17 +26,17 @@ returns-then-not-apart c =
     let joined : let a = c.args in ltb (set_in a.l) (2 ^ a.self.now.head.users.0) ≡ true = sym c.below.ensures ∙ c.if-not-below.false in
     insert-left _ _ _ _ _ _ c.args.self.now.ready _ _ joined (sym c.apart.ensures ∙ c.if-not-apart.true)
 
-pub returns-then-same : goal.returns-then-same
-returns-then-same c =
+pub returns-then-eq : goal.returns-then-eq
+returns-then-eq c =
     let joined : let a = c.args in ltb (set_in a.l) (2 ^ a.self.now.head.users.0) ≡ true = sym c.below.ensures ∙ c.if-not-below.false in
     let stay : let a = c.args in apart (set_in a.l) (set_in a.self.now.head.leavers) ≡ true = sym c.apart.ensures ∙ c.if-not-apart.false in
-    insert-empty _ _ _ _ _ _ c.args.self.now.ready _ _ joined stay (none-listed _ c.empty.ensures c.same.ensures c.if-same.true)
+    insert-empty _ _ _ _ _ _ c.args.self.now.ready _ _ joined stay (none-listed _ c.empty.ensures c.eq.ensures c.if-eq.true)
 
 pub returns-then-h-ge-LIMIT : goal.returns-then-h-ge-LIMIT
 returns-then-h-ge-LIMIT c =
     let joined : let a = c.args in ltb (set_in a.l) (2 ^ a.self.now.head.users.0) ≡ true = sym c.below.ensures ∙ c.if-not-below.false in
     let stay : let a = c.args in apart (set_in a.l) (set_in a.self.now.head.leavers) ≡ true = sym c.apart.ensures ∙ c.if-not-apart.false in
-    let filled : set_in c.args.l ≢ 0 = some-listed _ c.empty.ensures c.same.ensures c.if-same.false in
+    let filled : set_in c.args.l ≢ 0 = some-listed _ c.empty.ensures c.eq.ensures c.if-eq.false in
     insert-full _ _ _ _ _ _ c.args.self.now.ready _ _ joined stay filled c.if-h-ge-LIMIT.true
 
 pub new_rows-i-requires : goal.new_rows-i-requires
@@ -55,6 +55,6 @@ pub returns : goal.returns
 returns c =
     let joined : let a = c.args in ltb (set_in a.l) (2 ^ a.self.now.head.users.0) ≡ true = sym c.below.ensures ∙ c.if-not-below.false in
     let stay : let a = c.args in apart (set_in a.l) (set_in a.self.now.head.leavers) ≡ true = sym c.apart.ensures ∙ c.if-not-apart.false in
-    let filled : set_in c.args.l ≢ 0 = some-listed _ c.empty.ensures c.same.ensures c.if-same.false in
+    let filled : set_in c.args.l ≢ 0 = some-listed _ c.empty.ensures c.eq.ensures c.if-eq.false in
     insert-judged _ _ _ _ _ _ c.args.self.now.ready _ _ (ltb-true _ _ joined) stay filled c.if-h-ge-LIMIT.false c.inner_layer.ensures.layer c.insert_free-free.ensures
     c.new_rows-i.ensures.vertices_value c.new_rows-i.ensures.tokens_value c.settled-s.ensures.value c.rows_after-a.ensures c.plain.ensures c.limits.ensures
