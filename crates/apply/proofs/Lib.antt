@@ -1,0 +1,5 @@
+pub mod WorksLaws
+pub mod ApplyLaws
+pub mod RevokeLaws
+pub mod InsertLaws
+pub mod LeaveLaws

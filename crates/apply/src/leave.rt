@@ -5,7 +5,7 @@ ghost use Rattle.rules.specs.Refusals.{leaves};
 ghost use Rattle.rules.specs.Calls.{change};
 ghost use Rattle.apply.specs.Apply.{Accepted, applied};
 
-use crate::step::{Step, strike};
+use crate::step::{Step, answer, strike};
 use rules::{Applied, Head, Resource, TablesMut};
 use sets::User;
 
@@ -19,11 +19,9 @@ pub fn apply_leave(h: Head, t: &mut TablesMut<'_>, orders: &mut [u16], u: User) 
         a = strike(a, t, orders, Resource(r), u);
     }
     let leavers = a.head.leavers.with(u);
-    Applied {
-        head: Head {
-            leavers,
-            ..a.head
-        },
-        count: a.at as u16,
-    }
+    let head = Head {
+        leavers,
+        ..a.head
+    };
+    answer(Step { head, ..a }, t)
 }

@@ -11,7 +11,7 @@ ghost use Rattle.apply.specs.Apply.{Accepted, applied};
 
 use crate::grant::apply_grant;
 use crate::leave::apply_leave;
-use crate::step::{Step, settle, strike, with_inner};
+use crate::step::{Step, answer, settle, strike, with_inner};
 use layer::cover::put_order;
 use layer::make::vertex_for;
 use layer::table::put_set;
@@ -38,15 +38,15 @@ pub fn apply_join(h: Head, t: &mut TablesMut<'_>, orders: &mut [u16]) -> Applied
     let o = h.outer_vertices.0;
     put_set(t.inner_vertices, i as usize, s);
     put_set(t.outer_vertices, o as usize, s);
-    put_order(orders, 0, OrderKind::InnerVertex.number(), i, 0);
-    put_order(orders, 1, OrderKind::OuterVertex.number(), o, 0);
+    put_order(orders, 0, OrderKind::InnerVertex as u16, i, 0);
+    put_order(orders, 1, OrderKind::OuterVertex as u16, o, 0);
     let head = Head {
         users: Joined(h.users.0 + 1),
         inner_vertices: InnerVertices(i + 1),
         outer_vertices: OuterVertices(o + 1),
         ..h
     };
-    Applied { head, count: 2 }
+    answer(Step { head, at: 2 }, t)
 }
 
 // The vertex, the row, and its lock, which may be none; the order for the row comes last.
@@ -69,8 +69,8 @@ pub fn apply_insert(
         l,
         orders,
         0,
-        OrderKind::InnerVertex.number(),
-        OrderKind::InnerToken.number(),
+        OrderKind::InnerVertex as u16,
+        OrderKind::InnerToken as u16,
     );
     let n = h.resources.0;
     add_resource(t.resources, n as usize, l, InnerVertex(m.vertex));
@@ -81,11 +81,14 @@ pub fn apply_insert(
     let a = Step { head, at: m.at };
     let none = OuterVertex(OuterVertex::NONE);
     let b = settle(a, t, orders, Resource(n), none, l, p.free);
-    put_order(orders, b.at, OrderKind::Encrypt.number(), n, m.vertex);
-    Applied {
-        head: b.head,
-        count: (b.at + 1) as u16,
-    }
+    put_order(orders, b.at, OrderKind::Encrypt as u16, n, m.vertex);
+    answer(
+        Step {
+            at: b.at + 1,
+            ..b
+        },
+        t,
+    )
 }
 
 pub fn apply_revoke(
@@ -101,10 +104,7 @@ pub fn apply_revoke(
 {
     let start = Step { head: h, at: 0 };
     let a = strike(start, t, orders, r, u);
-    Applied {
-        head: a.head,
-        count: a.at as u16,
-    }
+    answer(a, t)
 }
 
 // Applying a request with its plan.

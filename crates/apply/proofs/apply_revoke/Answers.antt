@@ -1,7 +1,13 @@
-use native.Mathlib.Omega.{arith}
-use Prim.Native.Nat.{◌<◌, ◌≤◌}
-use lib.ListN.{length, get_or}
+-- `apply::apply_revoke` meets its contract. Assumes nothing.
+use Rattle.apply.proofs.ApplyLaws.{known}
+use Rattle.apply.proofs.RevokeLaws.{revoke-room, revoke-count, revoke-done}
 use Rattle.apply.proofs.apply_revoke.Goals as goal
 
+pub strike-a-requires : goal.strike-a-requires
+strike-a-requires c = revoke-room (known c.requires)
+
+pub answer-requires : goal.answer-requires
+answer-requires c = revoke-count (known c.requires) c.strike-a.ensures.works
+
 pub returns-clause-value : goal.returns-clause-value
-returns-clause-value c = let k = c.struct_known-1.given in let a = c.slice_known-1.given in let b = c.slice_known-2-1.given in ?
+returns-clause-value c = rw c.answer.ensures.value (revoke-done (known c.requires) c.strike-a.ensures.works c.answer.ensures.bytes)

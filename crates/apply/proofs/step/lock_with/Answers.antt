@@ -1,7 +1,11 @@
-use native.Mathlib.Omega.{arith}
-use Prim.Native.Nat.{◌<◌, ◌≤◌}
-use lib.ListN.{length, get_or}
+-- `apply::step::lock_with` meets its contract. Assumes nothing.
+use mathlib.Core.Path.{refl}
+use Rattle.apply.proofs.WorksLaws.{lock-counts, works-lock}
 use Rattle.apply.proofs.step.lock_with.Goals as goal
 
+pub with_outer-requires : goal.with_outer-requires
+with_outer-requires c = lock-counts c.requires c.outer_shape.ensures c.vertex_for-m.ensures
+
 pub returns-clause-works : goal.returns-clause-works
-returns-clause-works c = let k = c.vertex_for-m.ensures in let r = c.relock.ensures in let n = c.number.ensures in ?
+returns-clause-works c =
+    works-lock c.requires c.outer_shape.ensures c.vertex_for-m.ensures c.relock.ensures.resources c.relock.ensures.orders_after refl c.with_outer.ensures
