@@ -1,0 +1,36 @@
+-- `apply::grant::apply_grant` meets its contract. Assumes nothing.
+use Rattle.apply.proofs.ApplyLaws.{known}
+use Rattle.apply.proofs.GrantSteps.{grant-there, grant-user, grant-let-in, grant-group, grant-settle, grant-count, grant-done}
+use Rattle.apply.proofs.grant.apply_grant.Goals as goal
+
+pub row_of-x-requires : goal.row_of-x-requires
+row_of-x-requires c = grant-there (known c.requires.accepted)
+
+pub with-list-requires : goal.with-list-requires
+with-list-requires c = grant-user (known c.requires.accepted)
+
+pub relist-requires : goal.relist-requires
+relist-requires c = grant-there (known c.requires.accepted)
+
+pub lock_waiting-a-requires : goal.lock_waiting-a-requires
+lock_waiting-a-requires c = grant-group (known c.requires.accepted) c.requires.p_value c.row_of-x.ensures c.with-list.ensures c.relist.ensures
+
+pub settle-b-requires : goal.settle-b-requires
+settle-b-requires c =
+    grant-settle (known c.requires.accepted) c.requires.p_value c.row_of-x.ensures c.with-list.ensures c.relist.ensures c.lock_waiting-a.ensures.works
+
+pub let_in-c-requires : goal.let_in-c-requires
+let_in-c-requires c =
+    grant-let-in (known c.requires.accepted) c.requires.p_value c.row_of-x.ensures c.with-list.ensures c.relist.ensures c.lock_waiting-a.ensures.works
+    c.settle-b.ensures.works
+
+pub answer-requires : goal.answer-requires
+answer-requires c =
+    grant-count (known c.requires.accepted) c.requires.p_value c.row_of-x.ensures c.with-list.ensures c.relist.ensures c.lock_waiting-a.ensures.works
+    c.settle-b.ensures.works c.let_in-c.ensures.works
+
+pub returns-clause-value : goal.returns-clause-value
+returns-clause-value c =
+    rw c.answer.ensures.value
+    (grant-done (known c.requires.accepted) c.requires.p_value c.row_of-x.ensures c.with-list.ensures c.relist.ensures c.lock_waiting-a.ensures.works
+    c.settle-b.ensures.works c.let_in-c.ensures.works c.answer.ensures.bytes)
