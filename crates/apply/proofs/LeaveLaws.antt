@@ -12,10 +12,10 @@ use Rattle.sets.specs.declared.Users.{Users}
 use Rattle.rows.specs.Number.{joined}
 use Rattle.rows.proofs.Laws.{stored-none}
 use Rattle.rules.specs.Book.{Book, resource, with_leavers}
-use Rattle.rules.specs.Sound.{locked, max_resources}
+use Rattle.rules.specs.Sound.{locked}
 use Rattle.rules.specs.Requests.{Done, done, ◌then◌, revoke, naming, revoke_all, gone, leave}
 use Rattle.rules.specs.Refusals.{leaves, work}
-use Rattle.rules.specs.Bytes.{Tables, tables, book_in, left_by}
+use Rattle.rules.specs.Bytes.{Tables, book_in, left_by}
 use Rattle.rules.specs.Calls.{change, order_rows}
 use Rattle.rules.specs.declared.Head.{Head}
 use Rattle.rules.specs.declared.Order.{Order}
@@ -23,7 +23,7 @@ use Rattle.theorems.proofs.ByteLaws.{TableBytes}
 use Rattle.theorems.proofs.RequestLaws.{Allowed}
 use Rattle.theorems.proofs.LeaveLaws.{leave-given, run-laws, run-users, revoke_all-next, naming_to, leave_to, leave-to-all, to-run, to-names, to-fits}
 use Rattle.plan.proofs.WaitLaws.{below_none, below-yes, below-no}
-use Rattle.apply.specs.Apply.{Works, strike_by, StrikeRoom, Accepted, applied}
+use Rattle.apply.specs.Apply.{Works, strike_by, StrikeRoom, applied}
 use Rattle.apply.specs.declared.step.Step.{Step}
 use Rattle.apply.proofs.WorksLaws.{step, rest, past-none, then-orders, works-none, works-next, works-on, works-length, works-change, resources-in, users-in}
 use Rattle.apply.proofs.ApplyLaws.{Known}
@@ -57,9 +57,6 @@ module _ {h : Head} {t : Tables} {list : List ℕ} {u : ℕ} (k : Known (leaves 
   pub leave-user : u < people
   unfolding Allowed
   leave-user = omega (arith, k.allowed.0, users-in h t, k.sizes'.users≤)
-
-  pub leave-few : h.resources.0 ≤ max_resources
-  leave-few = k.sizes'.resources≤
 
   -- before the first
   pub leave_none : Works (d 0) h t list 0 (step h 0) t list

@@ -1,7 +1,7 @@
 -- A user taken off a list, as a revoke and a leave have it: the room for it, and that it is the revoke of the rules.
 -- Assumes nothing.
 use Prim.Native.Nat.{ℕ, ◌+◌, ◌*◌, ◌≤◌, ◌<◌}
-use mathlib.Core.Path.{◌≡◌, refl, sym, ap, ap₂, ◌∙◌, subst}
+use mathlib.Core.Path.{◌≡◌, sym, ap, ap₂, ◌∙◌, subst}
 use mathlib.Core.Bool.{Bool, true, false}
 use mathlib.Core.List.{List, []}
 use native.Mathlib.Omega.{arith}
@@ -13,7 +13,7 @@ use Rattle.rules.specs.Book.{Book, Resource, resource, with_list, with_resources
 use Rattle.rules.specs.Sound.{locked, max_tokens}
 use Rattle.rules.specs.Requests.{Done, done, ◌then◌, vertex_orders, revoke}
 use Rattle.rules.specs.Refusals.{revokes, work}
-use Rattle.rules.specs.Bytes.{Tables, tables, book_in, resources_in}
+use Rattle.rules.specs.Bytes.{Tables, book_in, resources_in}
 use Rattle.rules.specs.Calls.{change}
 use Rattle.rules.specs.declared.Head.{Head}
 use Rattle.theorems.specs.Plan.{lock_with, revoked_list}
@@ -25,7 +25,7 @@ use Rattle.theorems.proofs.PlanLaws.{lock-orders, revoke-plan, revoke-outer, rev
 use Rattle.layer.specs.Laid.{outer_shape, layer_of, max_vertices}
 use Rattle.plan.specs.Waiting.{row}
 use Rattle.write.specs.Write.{Resources, listed}
-use Rattle.apply.specs.Apply.{Works, strike_by, LockRoom, StrikeRoom, Accepted, applied}
+use Rattle.apply.specs.Apply.{Works, strike_by, LockRoom, StrikeRoom, applied}
 use Rattle.apply.specs.declared.step.Step.{Step}
 use Rattle.apply.proofs.WorksLaws.{step, with_rows, works-none, works-next, works-list, works-change, outer-in, resources-in, users-in, row-in}
 use Rattle.apply.proofs.ApplyLaws.{Known, lock-allowed}

@@ -30,7 +30,7 @@ use Rattle.theorems.proofs.RequestLaws.{accepted-long, work-sound}
 use Rattle.theorems.proofs.ServeLaws.{length-orders}
 use Rattle.layer.specs.Laid.{inner_shape, outer_shape, layer_of}
 use Rattle.layer.specs.Cover.{order_of}
-use Rattle.layer.specs.Make.{Fits, VertexFor}
+use Rattle.layer.specs.Make.{VertexFor}
 use Rattle.layer.specs.declared.walk.Shape.{Shape}
 use Rattle.layer.specs.declared.make.Made.{Made}
 use Rattle.layer.proofs.Read.{layer-sets, layer-tokens}

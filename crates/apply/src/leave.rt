@@ -19,9 +19,6 @@ pub fn apply_leave(h: Head, t: &mut TablesMut<'_>, orders: &mut [u16], u: User) 
         a = strike(a, t, orders, Resource(r), u);
     }
     let leavers = a.head.leavers.with(u);
-    let head = Head {
-        leavers,
-        ..a.head
-    };
+    let head = Head { leavers, ..a.head };
     answer(Step { head, ..a }, t)
 }

@@ -82,13 +82,7 @@ pub fn apply_insert(
     let none = OuterVertex(OuterVertex::NONE);
     let b = settle(a, t, orders, Resource(n), none, l, p.free);
     put_order(orders, b.at, OrderKind::Encrypt as u16, n, m.vertex);
-    answer(
-        Step {
-            at: b.at + 1,
-            ..b
-        },
-        t,
-    )
+    answer(Step { at: b.at + 1, ..b }, t)
 }
 
 pub fn apply_revoke(
@@ -108,13 +102,7 @@ pub fn apply_revoke(
 }
 
 // Applying a request with its plan.
-pub fn apply(
-    h: Head,
-    t: &mut TablesMut<'_>,
-    orders: &mut [u16],
-    q: Request,
-    p: Plan,
-) -> Applied
+pub fn apply(h: Head, t: &mut TablesMut<'_>, orders: &mut [u16], q: Request, p: Plan) -> Applied
     requires accepted { Accepted (request_of q) h (tables_mut t.old) orders.old }
     requires p_value { p ≡ plan_of (request_of q) (book_in h (tables_mut t.old)) }
     ensures same { SameTables t.old t.new }

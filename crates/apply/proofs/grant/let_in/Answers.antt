@@ -1,7 +1,6 @@
 -- `apply::grant::let_in` meets its contract. Assumes nothing.
 use mathlib.Core.Path.{ap}
 use mathlib.Core.Bool.{not}
-use native.Mathlib.Omega.{arith}
 use Rattle.rules.specs.Bytes.{Tables}
 use Rattle.apply.proofs.GrantWorks.{let-in-none, works-let-in, own_at, own-found}
 use Rattle.apply.proofs.grant.let_in.Goals as goal

@@ -16,7 +16,7 @@ loop-r-preserved c =
     record { same = search rules; works = leave-next (known c.requires) c.loop-r.invariant.works (omega arith) c.strike-a.ensures.works }
 
 pub with-leavers-requires : goal.with-leavers-requires
-with-leavers-requires c = leave-user (known c.requires)
+with-leavers-requires c = omega (arith, leave-user (known c.requires))
 
 pub answer-requires : goal.answer-requires
 answer-requires c = leave-count (known c.requires) c.loop-r.invariant.works (omega arith)
