@@ -6,7 +6,7 @@ ghost use Rattle.rules.specs.Lists.{first};
 ghost use Rattle.layer.specs.Laid.{found_in, is_set};
 ghost use Rattle.layer.specs.Seen.{as_laid, seen_sets, SeenIn};
 
-use crate::table::{Found, resource_in, set_of};
+use crate::table::{resource_in, set_of};
 use sets::{User, Users};
 
 // The vertices in the table, and how many new ones come behind them; the resources in theirs, and who leaves.
@@ -46,17 +46,15 @@ pub fn seen_set(vertices: &[u8], resources: &[u8], firsts: &[u16], l: Seen, v: u
 }
 
 // The first vertex whose set is s.
-pub fn find_seen(vertices: &[u8], resources: &[u8], firsts: &[u16], l: Seen, s: Users) -> Found
+pub fn find_seen(
+    vertices: &[u8],
+    resources: &[u8],
+    firsts: &[u16],
+    l: Seen,
+    s: Users,
+) -> Option<usize>
     requires { SeenIn l vertices.now resources.now firsts.now }
     ensures { result ≡ found_in (l.vertices + l.new) (first (is_set (set_in s)) (seen_sets l vertices.now resources.now firsts.now)) }
 {
-    let n = l.vertices + l.new;
-    let mut i: usize = 0;
-    while i < n {
-        if seen_set(vertices, resources, firsts, l, i).same(s) {
-            return Found::At(i);
-        }
-        i += 1;
-    }
-    Found::Nothing
+    (0..l.vertices + l.new).find(|&i| seen_set(vertices, resources, firsts, l, i).same(s))
 }

@@ -17,7 +17,7 @@ unfolding layer_of
 overflow_cast-result c =
     let layer : Layer = layer_of c.args.l c.args.tokens.now c.args.vertices.now in
     let sets : length layer.sets ≡ c.args.l.vertices = layer-sets c.args.l c.args.tokens.now c.args.vertices.now in
-    let there : (c.in-At.v < c.args.l.vertices) × (vertex_for layer (set_in c.args.s) ≡ c.in-At.v) × (found layer (set_in c.args.s) ≡ true) = vertex-there layer (set_in c.args.s) sets c.find_set-found.ensures c.in-At.is in
+    let there : (c.in-Some.v < c.args.l.vertices) × (vertex_for layer (set_in c.args.s) ≡ c.in-Some.v) × (found layer (set_in c.args.s) ≡ true) = vertex-there layer (set_in c.args.s) sets c.find_set-found.ensures c.in-Some.is in
     omega (arith, there.0, c.requires.vertices<)
 
 pub put_set-requires : goal.put_set-requires
@@ -25,7 +25,7 @@ unfolding layer_of
 put_set-requires c =
     let layer : Layer = layer_of c.args.l c.args.tokens.now c.args.vertices.now in
     let sets : length layer.sets ≡ c.args.l.vertices = layer-sets c.args.l c.args.tokens.now c.args.vertices.now in
-    let none : (vertex_for layer (set_in c.args.s) ≡ c.args.l.vertices) × (found layer (set_in c.args.s) ≡ false) = vertex-new layer (set_in c.args.s) sets c.find_set-found.ensures c.in-Nothing.is in
+    let none : (vertex_for layer (set_in c.args.s) ≡ c.args.l.vertices) × (found layer (set_in c.args.s) ≡ false) = vertex-new layer (set_in c.args.s) sets c.find_set-found.ensures c.in-None.is in
     let rooms : ((c.args.l.vertices + 1) * bytes ≤ length c.args.vertices.now)
     × ((c.args.l.tokens + c.cover_of-c.result.count) * c.args.l.width ≤ length c.args.tokens.now)
     × ((c.args.at + 1 + c.cover_of-c.result.count) * 3 ≤ length c.args.orders.now) = room _ _ _ 0 0 _ _ _ c.requires none.1 c.cover_of-c.ensures.count_value in
@@ -36,7 +36,7 @@ unfolding layer_of
 put_cover-requires c =
     let layer : Layer = layer_of c.args.l c.args.tokens.now c.args.vertices.now in
     let sets : length layer.sets ≡ c.args.l.vertices = layer-sets c.args.l c.args.tokens.now c.args.vertices.now in
-    let none : (vertex_for layer (set_in c.args.s) ≡ c.args.l.vertices) × (found layer (set_in c.args.s) ≡ false) = vertex-new layer (set_in c.args.s) sets c.find_set-found.ensures c.in-Nothing.is in
+    let none : (vertex_for layer (set_in c.args.s) ≡ c.args.l.vertices) × (found layer (set_in c.args.s) ≡ false) = vertex-new layer (set_in c.args.s) sets c.find_set-found.ensures c.in-None.is in
     let rooms : ((c.args.l.vertices + 1) * bytes ≤ length c.args.vertices.now)
     × ((c.args.l.tokens + c.cover_of-c.result.count) * c.args.l.width ≤ length c.args.tokens.now)
     × ((c.args.at + 1 + c.cover_of-c.result.count) * 3 ≤ length c.args.orders.now) = room _ _ _ 0 0 _ _ _ c.requires none.1 c.cover_of-c.ensures.count_value in
@@ -47,7 +47,7 @@ unfolding layer_of
 put_order-requires c =
     let layer : Layer = layer_of c.args.l c.args.tokens.now c.args.vertices.now in
     let sets : length layer.sets ≡ c.args.l.vertices = layer-sets c.args.l c.args.tokens.now c.args.vertices.now in
-    let none : (vertex_for layer (set_in c.args.s) ≡ c.args.l.vertices) × (found layer (set_in c.args.s) ≡ false) = vertex-new layer (set_in c.args.s) sets c.find_set-found.ensures c.in-Nothing.is in
+    let none : (vertex_for layer (set_in c.args.s) ≡ c.args.l.vertices) × (found layer (set_in c.args.s) ≡ false) = vertex-new layer (set_in c.args.s) sets c.find_set-found.ensures c.in-None.is in
     let rooms : ((c.args.l.vertices + 1) * bytes ≤ length c.args.vertices.now)
     × ((c.args.l.tokens + c.cover_of-c.result.count) * c.args.l.width ≤ length c.args.tokens.now)
     × ((c.args.at + 1 + c.cover_of-c.result.count) * 3 ≤ length c.args.orders.now) = room _ _ _ 0 0 _ _ _ c.requires none.1 c.cover_of-c.ensures.count_value in
@@ -58,7 +58,7 @@ unfolding layer_of
 overflow_add-at c =
     let layer : Layer = layer_of c.args.l c.args.tokens.now c.args.vertices.now in
     let sets : length layer.sets ≡ c.args.l.vertices = layer-sets c.args.l c.args.tokens.now c.args.vertices.now in
-    let none : (vertex_for layer (set_in c.args.s) ≡ c.args.l.vertices) × (found layer (set_in c.args.s) ≡ false) = vertex-new layer (set_in c.args.s) sets c.find_set-found.ensures c.in-Nothing.is in
+    let none : (vertex_for layer (set_in c.args.s) ≡ c.args.l.vertices) × (found layer (set_in c.args.s) ≡ false) = vertex-new layer (set_in c.args.s) sets c.find_set-found.ensures c.in-None.is in
     let rooms : ((c.args.l.vertices + 1) * bytes ≤ length c.args.vertices.now)
     × ((c.args.l.tokens + c.cover_of-c.result.count) * c.args.l.width ≤ length c.args.tokens.now)
     × ((c.args.at + 1 + c.cover_of-c.result.count) * 3 ≤ length c.args.orders.now) = room _ _ _ 0 0 _ _ _ c.requires none.1 c.cover_of-c.ensures.count_value in
@@ -73,7 +73,7 @@ unfolding layer_of
 put_orders-requires c =
     let layer : Layer = layer_of c.args.l c.args.tokens.now c.args.vertices.now in
     let sets : length layer.sets ≡ c.args.l.vertices = layer-sets c.args.l c.args.tokens.now c.args.vertices.now in
-    let none : (vertex_for layer (set_in c.args.s) ≡ c.args.l.vertices) × (found layer (set_in c.args.s) ≡ false) = vertex-new layer (set_in c.args.s) sets c.find_set-found.ensures c.in-Nothing.is in
+    let none : (vertex_for layer (set_in c.args.s) ≡ c.args.l.vertices) × (found layer (set_in c.args.s) ≡ false) = vertex-new layer (set_in c.args.s) sets c.find_set-found.ensures c.in-None.is in
     let rooms : ((c.args.l.vertices + 1) * bytes ≤ length c.args.vertices.now)
     × ((c.args.l.tokens + c.cover_of-c.result.count) * c.args.l.width ≤ length c.args.tokens.now)
     × ((c.args.at + 1 + c.cover_of-c.result.count) * 3 ≤ length c.args.orders.now) = room _ _ _ 0 0 _ _ _ c.requires none.1 c.cover_of-c.ensures.count_value in
@@ -86,7 +86,7 @@ unfolding layer_of
 overflow_add-shape c =
     let layer : Layer = layer_of c.args.l c.args.tokens.now c.args.vertices.now in
     let sets : length layer.sets ≡ c.args.l.vertices = layer-sets c.args.l c.args.tokens.now c.args.vertices.now in
-    let none : (vertex_for layer (set_in c.args.s) ≡ c.args.l.vertices) × (found layer (set_in c.args.s) ≡ false) = vertex-new layer (set_in c.args.s) sets c.find_set-found.ensures c.in-Nothing.is in
+    let none : (vertex_for layer (set_in c.args.s) ≡ c.args.l.vertices) × (found layer (set_in c.args.s) ≡ false) = vertex-new layer (set_in c.args.s) sets c.find_set-found.ensures c.in-None.is in
     let rooms : ((c.args.l.vertices + 1) * bytes ≤ length c.args.vertices.now)
     × ((c.args.l.tokens + c.cover_of-c.result.count) * c.args.l.width ≤ length c.args.tokens.now)
     × ((c.args.at + 1 + c.cover_of-c.result.count) * 3 ≤ length c.args.orders.now) = room _ _ _ 0 0 _ _ _ c.requires none.1 c.cover_of-c.ensures.count_value in
@@ -96,15 +96,15 @@ overflow_add-shape c =
     ) in
     omega (arith, fit.0)
 
-pub overflow_add-shape-in-Nothing : goal.overflow_add-shape-in-Nothing
-overflow_add-shape-in-Nothing c = omega (arith, c.requires.vertices<)
+pub overflow_add-shape-in-None : goal.overflow_add-shape-in-None
+overflow_add-shape-in-None c = omega (arith, c.requires.vertices<)
 
 pub overflow_add-result : goal.overflow_add-result
 unfolding layer_of
 overflow_add-result c =
     let layer : Layer = layer_of c.args.l c.args.tokens.now c.args.vertices.now in
     let sets : length layer.sets ≡ c.args.l.vertices = layer-sets c.args.l c.args.tokens.now c.args.vertices.now in
-    let none : (vertex_for layer (set_in c.args.s) ≡ c.args.l.vertices) × (found layer (set_in c.args.s) ≡ false) = vertex-new layer (set_in c.args.s) sets c.find_set-found.ensures c.in-Nothing.is in
+    let none : (vertex_for layer (set_in c.args.s) ≡ c.args.l.vertices) × (found layer (set_in c.args.s) ≡ false) = vertex-new layer (set_in c.args.s) sets c.find_set-found.ensures c.in-None.is in
     let rooms : ((c.args.l.vertices + 1) * bytes ≤ length c.args.vertices.now)
     × ((c.args.l.tokens + c.cover_of-c.result.count) * c.args.l.width ≤ length c.args.tokens.now)
     × ((c.args.at + 1 + c.cover_of-c.result.count) * 3 ≤ length c.args.orders.now) = room _ _ _ 0 0 _ _ _ c.requires none.1 c.cover_of-c.ensures.count_value in
@@ -114,12 +114,12 @@ overflow_add-result c =
     ) in
     omega (arith, fit.1)
 
-pub overflow_add-result-in-Nothing : goal.overflow_add-result-in-Nothing
+pub overflow_add-result-in-None : goal.overflow_add-result-in-None
 unfolding layer_of
-overflow_add-result-in-Nothing c =
+overflow_add-result-in-None c =
     let layer : Layer = layer_of c.args.l c.args.tokens.now c.args.vertices.now in
     let sets : length layer.sets ≡ c.args.l.vertices = layer-sets c.args.l c.args.tokens.now c.args.vertices.now in
-    let none : (vertex_for layer (set_in c.args.s) ≡ c.args.l.vertices) × (found layer (set_in c.args.s) ≡ false) = vertex-new layer (set_in c.args.s) sets c.find_set-found.ensures c.in-Nothing.is in
+    let none : (vertex_for layer (set_in c.args.s) ≡ c.args.l.vertices) × (found layer (set_in c.args.s) ≡ false) = vertex-new layer (set_in c.args.s) sets c.find_set-found.ensures c.in-None.is in
     let rooms : ((c.args.l.vertices + 1) * bytes ≤ length c.args.vertices.now)
     × ((c.args.l.tokens + c.cover_of-c.result.count) * c.args.l.width ≤ length c.args.tokens.now)
     × ((c.args.at + 1 + c.cover_of-c.result.count) * 3 ≤ length c.args.orders.now) = room _ _ _ 0 0 _ _ _ c.requires none.1 c.cover_of-c.ensures.count_value in
@@ -129,19 +129,19 @@ overflow_add-result-in-Nothing c =
     ) in
     omega (arith, fit.1)
 
-pub returns-in-At : goal.returns-in-At
+pub returns-in-Some : goal.returns-in-Some
 unfolding layer_of
-returns-in-At c =
+returns-in-Some c =
     let layer : Layer = layer_of c.args.l c.args.tokens.now c.args.vertices.now in
     let sets : length layer.sets ≡ c.args.l.vertices = layer-sets c.args.l c.args.tokens.now c.args.vertices.now in
-    let there : (c.in-At.v < c.args.l.vertices) × (vertex_for layer (set_in c.args.s) ≡ c.in-At.v) × (found layer (set_in c.args.s) ≡ true) = vertex-there layer (set_in c.args.s) sets c.find_set-found.ensures c.in-At.is in
+    let there : (c.in-Some.v < c.args.l.vertices) × (vertex_for layer (set_in c.args.s) ≡ c.in-Some.v) × (found layer (set_in c.args.s) ≡ true) = vertex-there layer (set_in c.args.s) sets c.find_set-found.ensures c.in-Some.is in
     left_there _ _ _ _ _ _ _ _ there.1 there.2
 
-pub returns-in-Nothing : goal.returns-in-Nothing
+pub returns-in-None : goal.returns-in-None
 unfolding layer_of
-returns-in-Nothing c =
+returns-in-None c =
     let layer : Layer = layer_of c.args.l c.args.tokens.now c.args.vertices.now in
     let sets : length layer.sets ≡ c.args.l.vertices = layer-sets c.args.l c.args.tokens.now c.args.vertices.now in
-    let none : (vertex_for layer (set_in c.args.s) ≡ c.args.l.vertices) × (found layer (set_in c.args.s) ≡ false) = vertex-new layer (set_in c.args.s) sets c.find_set-found.ensures c.in-Nothing.is in
+    let none : (vertex_for layer (set_in c.args.s) ≡ c.args.l.vertices) × (found layer (set_in c.args.s) ≡ false) = vertex-new layer (set_in c.args.s) sets c.find_set-found.ensures c.in-None.is in
     left-new _ _ _ _ _ _ _ _ c.requires (omega (arith)) none.0 none.1 c.cover_of-c.ensures.count_value c.cover_of-c.ensures.from_value
     c.put_set.ensures c.put_cover.ensures c.put_order.ensures c.put_orders.ensures
