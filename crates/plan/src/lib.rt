@@ -1,7 +1,7 @@
 // What is judged and planned before anything is written: the refusals of each request on the tables as they are, and what applying it needs to know.
 #![tactic(auto)]
 
-use rules::{Refusal, Resource};
+use rules::Resource;
 use sets::{User, Users};
 
 pub mod judge;
@@ -24,10 +24,4 @@ pub struct Plan {
     pub free: bool,
     pub token: bool,
     pub holders: Users,
-}
-
-#[derive(Clone, Copy)]
-pub enum Judged {
-    Go(Plan),
-    No(Refusal),
 }

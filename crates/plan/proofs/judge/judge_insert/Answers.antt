@@ -8,16 +8,14 @@ use lib.Dec.{ltb}
 use borrow.Author.Tests.{ltb-true}
 use Rattle.sets.specs.Sets.{apart}
 use Rattle.sets.specs.Words.{set_in}
-use Rattle.rules.specs.Bytes.{tables}
 use Rattle.plan.proofs.PartLaws.{none-listed, some-listed, users-within}
-use Rattle.plan.proofs.ReadyLaws.{Sizes, sizes, inner-laid}
+use Rattle.plan.proofs.ReadyLaws.{sizes}
 use Rattle.plan.proofs.JudgeLaws.{insert-no-such, insert-left, insert-empty, insert-full, insert-judged}
 use Rattle.plan.proofs.judge.judge_insert.Goals as goal
 
 pub below-requires : goal.below-requires
 below-requires c =
-    let sized : let a = c.args in Sizes a.h (tables a.iv.now a.it.now a.ov.now a.ot.now a.rs.now) = sizes _ _ _ _ _ _ c.requires in
-    omega (arith, sized.users≤)
+    omega (arith, (sizes _ _ _ _ _ _ c.requires).users≤)
 
 pub returns-then-not-below : goal.returns-then-not-below
 returns-then-not-below c =
@@ -41,29 +39,22 @@ returns-then-h-ge-LIMIT c =
     let filled : set_in c.args.l ≢ 0 = some-listed _ c.empty.ensures c.same.ensures c.if-same.false in
     insert-full _ _ _ _ _ _ c.requires _ _ joined stay filled c.if-h-ge-LIMIT.true
 
-pub insert_free-free-requires : goal.insert_free-free-requires
-insert_free-free-requires c = inner-laid _ _ _ _ _ _ c.requires
-
 pub new_rows-i-requires : goal.new_rows-i-requires
 new_rows-i-requires c =
-    let sized : let a = c.args in Sizes a.h (tables a.iv.now a.it.now a.ov.now a.ot.now a.rs.now) = sizes _ _ _ _ _ _ c.requires in
-    let z = sized in
-    (z.room.inner_vertices, omega (arith, z.inner≤))
+    ((sizes _ _ _ _ _ _ c.requires).room.inner_vertices, omega (arith, (sizes _ _ _ _ _ _ c.requires).inner≤))
 
 pub settled-s-requires : goal.settled-s-requires
 settled-s-requires c =
-    let sized : let a = c.args in Sizes a.h (tables a.iv.now a.it.now a.ov.now a.ot.now a.rs.now) = sizes _ _ _ _ _ _ c.requires in
-    sized.room.outer_vertices
+    (sizes _ _ _ _ _ _ c.requires).room.outer_vertices
 
 pub limits-requires : goal.limits-requires
 limits-requires c =
-    let sized : let a = c.args in Sizes a.h (tables a.iv.now a.it.now a.ov.now a.ot.now a.rs.now) = sizes _ _ _ _ _ _ c.requires in
-    users-within c.args.h _ _ _ c.rows_after-a.ensures sized.users≤
+    users-within c.args.h _ _ _ c.rows_after-a.ensures (sizes _ _ _ _ _ _ c.requires).users≤
 
 pub returns : goal.returns
 returns c =
     let joined : let a = c.args in ltb (set_in a.l) (2 ^ a.h.users.0) ≡ true = sym c.below.ensures ∙ c.if-not-below.false in
     let stay : let a = c.args in apart (set_in a.l) (set_in a.h.leavers) ≡ true = sym c.apart.ensures ∙ c.if-not-apart.false in
     let filled : set_in c.args.l ≢ 0 = some-listed _ c.empty.ensures c.same.ensures c.if-same.false in
-    insert-judged _ _ _ _ _ _ c.requires _ _ (ltb-true _ _ joined) stay filled c.if-h-ge-LIMIT.false c.insert_free-free.ensures
+    insert-judged _ _ _ _ _ _ c.requires _ _ (ltb-true _ _ joined) stay filled c.if-h-ge-LIMIT.false c.inner_layer.ensures.layer c.insert_free-free.ensures
     c.new_rows-i.ensures.vertices_value c.new_rows-i.ensures.tokens_value c.settled-s.ensures.value c.rows_after-a.ensures c.plain.ensures c.limits.ensures

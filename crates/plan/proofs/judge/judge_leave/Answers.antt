@@ -2,9 +2,8 @@
 use Prim.Native.Nat.{◌≤◌, ◌<◌}
 use mathlib.Core.Path.{sym, ◌∙◌}
 use native.Mathlib.Omega.{arith}
-use Rattle.rules.specs.Bytes.{tables}
 use Rattle.plan.proofs.PartLaws.{users-within}
-use Rattle.plan.proofs.ReadyLaws.{Sizes, sizes}
+use Rattle.plan.proofs.ReadyLaws.{sizes}
 use Rattle.plan.proofs.LeaveLaws.{leave-no-such, leave-left, leave-judged}
 use Rattle.plan.proofs.judge.judge_leave.Goals as goal
 
@@ -16,8 +15,7 @@ returns-then-u-h c =
 pub has-requires : goal.has-requires
 has-requires c =
     let exists : let a = c.args in a.u.0 < a.h.users.0 = omega arith in
-    let sized : let a = c.args in Sizes a.h (tables a.iv.now a.it.now a.ov.now a.ot.now a.rs.now) = sizes _ _ _ _ _ _ c.requires in
-    omega (arith, exists, sized.users≤)
+    omega (arith, exists, (sizes _ _ _ _ _ _ c.requires).users≤)
 
 pub returns-then-has : goal.returns-then-has
 returns-then-has c =
@@ -27,17 +25,14 @@ returns-then-has c =
 pub leave_part-p-requires : goal.leave_part-p-requires
 leave_part-p-requires c =
     let exists : let a = c.args in a.u.0 < a.h.users.0 = omega arith in
-    let sized : let a = c.args in Sizes a.h (tables a.iv.now a.it.now a.ov.now a.ot.now a.rs.now) = sizes _ _ _ _ _ _ c.requires in
-    let z = sized in
     record {
-      bytes_in_bounds = (z.room.outer_vertices, z.room.resources);
-      resources_le_max_resources = omega (arith, exists, z.users≤, z.resources≤, z.outer≤);
+      bytes_in_bounds = ((sizes _ _ _ _ _ _ c.requires).room.outer_vertices, (sizes _ _ _ _ _ _ c.requires).room.resources);
+      resources_le_max_resources = omega (arith, exists, (sizes _ _ _ _ _ _ c.requires).users≤, (sizes _ _ _ _ _ _ c.requires).resources≤, (sizes _ _ _ _ _ _ c.requires).outer≤);
     }
 
 pub limits-requires : goal.limits-requires
 limits-requires c =
-    let sized : let a = c.args in Sizes a.h (tables a.iv.now a.it.now a.ov.now a.ot.now a.rs.now) = sizes _ _ _ _ _ _ c.requires in
-    users-within c.args.h _ _ _ c.rows_after.ensures sized.users≤
+    users-within c.args.h _ _ _ c.rows_after.ensures (sizes _ _ _ _ _ _ c.requires).users≤
 
 pub returns : goal.returns
 returns c =

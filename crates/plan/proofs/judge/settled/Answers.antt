@@ -17,8 +17,8 @@ returns-then-outer-eq-NONE c =
       vertices_bound = omega arith;
     }
 
-pub returns-else-outer-eq-NONE : goal.returns-else-outer-eq-NONE
-returns-else-outer-eq-NONE c =
+pub returns : goal.returns
+returns c =
     record {
       value = settled-free c.args.free _ _ _ (c.if-not-free.false) c.if-outer-eq-NONE.false;
       vertices_bound = omega arith;

@@ -1,4 +1,5 @@
 -- `plan::judge::with_neighbours` meets its contract. Assumes nothing.
+use Rattle.std.proofs.Common.{rules}
 use native.Mathlib.Omega.{arith}
 use Rattle.plan.proofs.PartLaws.{none-waiting, some-waiting}
 use Rattle.plan.proofs.judge.with_neighbours.Goals as goal
@@ -13,6 +14,6 @@ returns-then-n-eq0 c =
 pub returns : goal.returns
 returns c =
     record {
-      value = some-waiting _ _ _ _ c.if-n-eq0.false c.lock_rows-o.ensures.value;
-      few = omega (arith, c.requires, c.lock_rows-o.ensures.vertices_bound);
+      value = some-waiting _ _ _ _ c.if-n-eq0.false c.lock_rows.ensures.value c.add.ensures;
+      few = search rules;
     }
