@@ -16,5 +16,5 @@ returns-in_default-clause-works c =
 pub returns-clause-works : goal.returns-clause-works
 returns-clause-works c =
     let found = rw (ap (λ (x : Tables). x.inner_vertices) c.read.ensures) at c.find_set.ensures in
-    let own = (own_at c.requires c.only.ensures found c.in-At.is).1 in
+    let own = own_at c.requires c.only.ensures found c.in-Some.is in
     works-let-in _ _ _ (ap not c.if-not-token.false) own c.add_token.ensures.token_added c.add_token.ensures.orders_after
