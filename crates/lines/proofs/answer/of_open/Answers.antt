@@ -1,12 +1,13 @@
 -- `lines::answer::of_open` meets its contract. Assumes nothing.
-use borrow.Author.Tests.{ne_eqb}
+use Rattle.std.proofs.Common.{arith}
+use Rattle.std.proofs.lemmas.Bool.Decides.{nat_tests}
 use Rattle.lines.specs.Answer.{of_open}
 use Rattle.lines.proofs.answer.of_open.Goals as goal
 
-pub returns-then-kind-eq105 : goal.returns-then-kind-eq105
+pub returns-in-105 : goal.returns-in-105
 unfolding of_open
-returns-then-kind-eq105 c = rw c.if-kind-eq105.true
+returns-in-105 c = grind (arith, nat_tests)
 
-pub returns : goal.returns
+pub returns-in_default : goal.returns-in_default
 unfolding of_open
-returns c = rw (ne_eqb _ 105 c.if-kind-eq105.false)
+returns-in_default c = grind (arith, nat_tests)
