@@ -59,7 +59,7 @@ impl Foreseen<'_> {
     pub fn find_set(&self, s: Users) -> Option<usize>
         ensures { result ≡ found_in (self.now.seen.vertices + self.now.seen.new) (first (is_set (set_in s)) (sets_then self.now)) }
     {
-        let n = self.seen.vertices + self.seen.new;
-        (0..n).position(|v| self.set_of(v).same(s))
+        let l = *self;
+        (0..l.seen.vertices + l.seen.new).position(|v| l.set_of(v).same(s))
     }
 }

@@ -5,9 +5,9 @@ use Rattle.sets.specs.Words.{people, set_in}
 use Rattle.layer.specs.Cover.{cover_of}
 use Rattle.layer.specs.Lent.{sets_then}
 use Rattle.layer.proofs.SeenLaws.{length_seen}
-use Rattle.layer.proofs.CoverLaws.{lower, cover-short, rest-past, rest-covered, lower-start, lower-next, lower_end, taken-on, taken-all, walk-miss, walk-room, walk-hit}
+use Rattle.layer.proofs.CoverLaws.{lower, cover-short, rest-past, rest-covered, lower-start, lower-next, lower_end, taken-on, taken-all, walk-outside, walk-other, walk-covered, walk-room, walk-hit}
 use Rattle.layer.proofs.laid.Foreseen.cover.Goals as goal
-use Rattle.layer.proofs.laid.Foreseen.cover.Goals.{then-adds+else-same, else-adds}
+use Rattle.layer.proofs.laid.Foreseen.cover.Goals.{then-within+then-size-k+then-not-within+else-same, else-within, else-within-via-then-within+then-size-k+else-not-within, else-within-via-then-within+else-size-k, else-within-via-else-within}
 
 pub loop-k-init : goal.loop-k-init
 loop-k-init c =
@@ -29,19 +29,26 @@ loop-k-preserved c =
 
 pub bounds-from-count : goal.bounds-from-count
 bounds-from-count c =
-    let many = length_seen _ _ _ _ c.args.self.now.seen_in in
-    let short = cover-short _ _ c.size-k.ensures.value c.size-k.ensures.upper_bound in
-    walk-room _ _ c.loop-v.invariant many c.loop-v-test.true c.adds.ensures c.if-adds.true short
+    walk-room _ _ c.loop-v.invariant (length_seen _ _ _ _ c.args.self.now.seen_in) c.loop-v-test.true c.set_of-x.ensures
+    (sym c.within.ensures ∙ c.if-within.true) (sym c.size.ensures.value ∙ c.if-size-k.true) (omega (arith, c.size-k.ensures.value)) (sym c.within-then-size-k.ensures ∙ c.if-not-within.true)
+    (cover-short _ _ c.size-k.ensures.value c.size-k.ensures.upper_bound)
 
 pub loop-v-preserved : goal.loop-v-preserved
 loop-v-preserved c =
-    let many = length_seen _ _ _ _ c.args.self.now.seen_in in
-    let short = cover-short _ _ c.size-k.ensures.value c.size-k.ensures.upper_bound in
-    elim c.if-adds.branch [
-      | then-adds+else-same w ↦
+    elim c.if-within.branch [
+      | then-within+then-size-k+then-not-within+else-same w ↦
           rw (w.from-is, w.count-is, w.covered-is)
-          (walk-hit _ _ c.loop-v.invariant many c.loop-v-test.true c.adds.ensures w.if-adds.true short w.set_of.ensures w.union-covered.ensures)
-      | else-adds w ↦ rw (w.from-is, w.count-is, w.covered-is) (walk-miss _ _ c.loop-v.invariant many c.loop-v-test.true c.adds.ensures w.if-adds.false)
+          (walk-hit _ _ c.loop-v.invariant (length_seen _ _ _ _ c.args.self.now.seen_in) c.loop-v-test.true c.set_of-x.ensures
+    (sym c.within.ensures ∙ w.if-within.true) (sym w.size.ensures.value ∙ w.if-size-k.true) (omega (arith, c.size-k.ensures.value)) (sym w.within-then-size-k.ensures ∙ w.if-not-within.true)
+    (cover-short _ _ c.size-k.ensures.value c.size-k.ensures.upper_bound) w.union-covered.ensures)
+      | else-within w ↦
+          let many = length_seen _ _ _ _ c.args.self.now.seen_in in
+          rw (w.from-is, w.count-is, w.covered-is)
+          (elim w.else-within.branch [
+            | else-within-via-then-within+then-size-k+else-not-within v ↦ walk-covered _ _ c.loop-v.invariant many c.loop-v-test.true c.set_of-x.ensures (sym v.within-then-size-k.ensures ∙ v.if-not-within.false)
+            | else-within-via-then-within+else-size-k v ↦ walk-other _ _ c.loop-v.invariant many c.loop-v-test.true c.set_of-x.ensures (λ e. v.if-size-k.false (v.size.ensures.value ∙ e))
+            | else-within-via-else-within v ↦ walk-outside _ _ c.loop-v.invariant many c.loop-v-test.true c.set_of-x.ensures (sym c.within.ensures ∙ v.if-within.false)
+          ])
     ]
 
 -- nothing is left to take: no set is smaller, or all of s are covered
@@ -53,14 +60,14 @@ returns c = taken-all c.loop-k.invariant (lower_end _ _ _ _ c.loop-k-test.false)
 
 pub invariant_of-result : goal.invariant_of-result
 invariant_of-result c =
-    let many = length_seen _ _ _ _ c.args.self.now.seen_in in
-    let short = cover-short _ _ c.size-k.ensures.value c.size-k.ensures.upper_bound in
-    record { few = (walk-hit _ _ c.loop-v.invariant many c.loop-v-test.true c.adds.ensures c.if-adds.true short c.set_of.ensures c.union-covered.ensures).few }
+    let taken = walk-hit _ _ c.loop-v.invariant (length_seen _ _ _ _ c.args.self.now.seen_in) c.loop-v-test.true c.set_of-x.ensures
+    (sym c.within.ensures ∙ c.if-within.true) (sym c.size.ensures.value ∙ c.if-size-k.true) (omega (arith, c.size-k.ensures.value)) (sym c.within-then-size-k.ensures ∙ c.if-not-within.true)
+    (cover-short _ _ c.size-k.ensures.value c.size-k.ensures.upper_bound) c.union-covered.ensures in
+    record { few = taken.few }
 
 pub returns-then-same : goal.returns-then-same
 returns-then-same c =
-    let many = length_seen _ _ _ _ c.args.self.now.seen_in in
-    let short = cover-short _ _ c.size-k.ensures.value c.size-k.ensures.upper_bound in
-    taken-all
-    (walk-hit _ _ c.loop-v.invariant many c.loop-v-test.true c.adds.ensures c.if-adds.true short c.set_of.ensures c.union-covered.ensures)
-    (rest-covered _ _ _ _ _ (eqb-true _ _ (sym c.same.ensures ∙ c.if-same.true)))
+    let taken = walk-hit _ _ c.loop-v.invariant (length_seen _ _ _ _ c.args.self.now.seen_in) c.loop-v-test.true c.set_of-x.ensures
+    (sym c.within.ensures ∙ c.if-within.true) (sym c.size.ensures.value ∙ c.if-size-k.true) (omega (arith, c.size-k.ensures.value)) (sym c.within-then-size-k.ensures ∙ c.if-not-within.true)
+    (cover-short _ _ c.size-k.ensures.value c.size-k.ensures.upper_bound) c.union-covered.ensures in
+    taken-all taken (rest-covered _ _ _ _ _ (eqb-true _ _ (sym c.same.ensures ∙ c.if-same.true)))
