@@ -8,12 +8,6 @@ use Rattle.rows.proofs.Laws.{stored-sets}
 use Rattle.layer.specs.Cover.{order_of}
 use Rattle.layer.proofs.cover.put_order.Goals as goal
 
-pub bounds-orders-at-2 : goal.bounds-orders-at-2
-bounds-orders-at-2 c = simp length-set (omega arith)
-
-pub bounds-orders-at-3 : goal.bounds-orders-at-3
-bounds-orders-at-3 c = simp length-set (omega arith)
-
 pub returns : goal.returns
 returns c =
     let at = c.args.row * 3 in

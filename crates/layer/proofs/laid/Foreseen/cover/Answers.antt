@@ -39,8 +39,8 @@ loop-v-preserved c =
       | then-within+then-size-k+then-not-within+else-same w ↦
           rw (w.from-is, w.count-is, w.covered-is)
           (walk-hit _ _ c.loop-v.invariant (length_seen _ _ _ _ c.args.self.now.seen_in) c.loop-v-test.true c.set_of-x.ensures
-    (sym c.within.ensures ∙ w.if-within.true) (sym w.size.ensures.value ∙ w.if-size-k.true) (omega (arith, c.size-k.ensures.value)) (sym w.within-then-size-k.ensures ∙ w.if-not-within.true)
-    (cover-short _ _ c.size-k.ensures.value c.size-k.ensures.upper_bound) w.union-covered.ensures)
+          (sym c.within.ensures ∙ w.if-within.true) (sym w.size.ensures.value ∙ w.if-size-k.true) (omega (arith, c.size-k.ensures.value)) (sym w.within-then-size-k.ensures ∙ w.if-not-within.true)
+          (cover-short _ _ c.size-k.ensures.value c.size-k.ensures.upper_bound) w.union-covered.ensures)
       | else-within w ↦
           let many = length_seen _ _ _ _ c.args.self.now.seen_in in
           rw (w.from-is, w.count-is, w.covered-is)
