@@ -1,16 +1,15 @@
 -- The sets of a layer as a leave will have it, vertex by vertex.
 -- Assumes nothing.
-use Prim.Native.Nat.{ℕ, zero, suc, ◌+◌, ◌-◌, ◌*◌, ◌≤◌, ◌<◌}
+use Prim.Native.Nat.{ℕ, zero, suc, ◌+◌, ◌-◌, ◌≤◌, ◌<◌}
 use mathlib.Core.Path.{◌≡◌, refl, ap, ◌∙◌}
-use mathlib.Core.List.{List, [], ◌∷◌, ◌++◌, map, append-nil}
+use mathlib.Core.List.{List, [], ◌∷◌, ◌++◌, map}
 use native.Mathlib.Nat.{not-suc-le-zero, le_of_suc-le-suc}
 use native.Mathlib.Omega.{arith}
 use lib.ListN.{length, take, get_or, length-append, length-map, get_or-append}
 use lib.Seq.{length-take-le, get_or-append-add, get_or-take}
-use Rattle.sets.specs.Words.{bytes}
 use Rattle.rules.specs.Bytes.{sets_in, resources_in}
 use Rattle.layer.specs.declared.seen.Seen.{Seen}
-use Rattle.layer.specs.Seen.{as_laid, left_of, seen_sets, SeenIn}
+use Rattle.layer.specs.Seen.{left_of, seen_sets, SeenIn}
 use Rattle.layer.proofs.Read.{length-sets}
 
 get_or-map-in : (f : ℕ → ℕ) (xs : List ℕ) (i d e : ℕ) → i < length xs → get_or (map f xs) i d ≡ f (get_or xs i e)

@@ -3,7 +3,6 @@ use mathlib.Core.Path.{◌≡◌}
 use Prim.Native.Nat.{suc, ◌+◌, ◌*◌}
 use native.Mathlib.Numerals.{add-one}
 use native.Mathlib.Omega.{arith}
-use lib.ListN.{length-set}
 use Rattle.rows.proofs.Laws.{stored-sets}
 use Rattle.layer.specs.Cover.{order_of}
 use Rattle.layer.proofs.cover.put_order.Goals as goal

@@ -1,11 +1,10 @@
 -- `layer::table::token_in` meets its contract. Assumes nothing.
 use mathlib.Core.Path.{sym, ap₂, ◌∙◌}
-use Prim.Native.Nat.{ℕ, ◌+◌, ◌*◌, ◌≤◌}
+use Prim.Native.Nat.{ℕ, ◌+◌, ◌*◌}
 use native.Mathlib.Omega.{arith}
 use lib.ListN.{get_or}
 use Rattle.rules.specs.Layer.{token}
 use Rattle.layer.proofs.Read.{token-4, token-5}
-use Rattle.rows.proofs.Fill.{row_within}
 use Rattle.layer.proofs.table.token_in.Goals as goal
 
 pub returns-then-width-eq-WIDTH : goal.returns-then-width-eq-WIDTH
