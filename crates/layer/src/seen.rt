@@ -6,6 +6,7 @@ ghost use Rattle.rules.specs.Lists.{first};
 ghost use Rattle.rules.specs.Bytes.{sets_in};
 ghost use Rattle.layer.specs.Laid.{found_in, is_set};
 ghost use Rattle.layer.specs.Lent.{sets_then};
+ghost use Rattle.layer.specs.Seen.{as_laid};
 
 use crate::laid::Foreseen;
 use crate::table::{resource_in, set_of};
@@ -24,7 +25,8 @@ impl<'a> Foreseen<'a> {
     // The n vertices of a table, and nothing new: who leaves is never asked.
     pub fn as_laid(vertices: &'a [u8], n: usize) -> Foreseen<'a>
         requires { (n * bytes ≤ length vertices.now) × (n < 65536) }
-        ensures { sets_then result ≡ sets_in n vertices.now }
+        ensures seen_value { result.seen ≡ as_laid n }
+        ensures sets_value { sets_then result ≡ sets_in n vertices.now }
     {
         Foreseen {
             vertices,
@@ -59,7 +61,7 @@ impl Foreseen<'_> {
     pub fn find_set(&self, s: Users) -> Option<usize>
         ensures { result ≡ found_in (self.now.seen.vertices + self.now.seen.new) (first (is_set (set_in s)) (sets_then self.now)) }
     {
-        let n = self.seen.vertices + self.seen.new;
-        (0..n).position(|v| self.set_of(v) == s)
+        let l = *self;
+        (0..l.seen.vertices + l.seen.new).position(|v| l.set_of(v).same(s))
     }
 }

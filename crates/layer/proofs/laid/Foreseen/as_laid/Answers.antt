@@ -3,6 +3,6 @@ use mathlib.Core.List.{append-nil}
 use Rattle.layer.specs.Seen.{seen_sets}
 use Rattle.layer.proofs.laid.Foreseen.as_laid.Goals as goal
 
-pub returns : goal.returns
+pub returns-clause-sets_value : goal.returns-clause-sets_value
 unfolding seen_sets
-returns c = append-nil _
+returns-clause-sets_value c = append-nil _
