@@ -62,6 +62,6 @@ impl Foreseen<'_> {
         ensures { result ≡ found_in (self.now.seen.vertices + self.now.seen.new) (first (is_set (set_in s)) (sets_then self.now)) }
     {
         let l = *self;
-        (0..l.seen.vertices + l.seen.new).position(|v| l.set_of(v).same(s))
+        (0..l.seen.vertices + l.seen.new).position(|v| l.set_of(v) == s)
     }
 }

@@ -64,9 +64,9 @@ invariant_of-result c =
     (cover-short _ _ c.size-k.ensures.value c.size-k.ensures.upper_bound) c.set_of.ensures c.union-covered.ensures in
     record { few = on.taken.few }
 
-pub returns-then-same : goal.returns-then-same
-returns-then-same c =
+pub returns-then-eq : goal.returns-then-eq
+returns-then-eq c =
     let on = walk-hit c.loop-v-2.invariant (length_seen _ _ _ _ c.args.self.now.seen_in) c.in-Some.ensures.steps c.set_of-x.ensures
     (sym c.within.ensures ∙ c.if-within.true) (omega (arith, c.size-k.ensures.value)) c.is_fresh.ensures c.if-is_fresh.true
     (cover-short _ _ c.size-k.ensures.value c.size-k.ensures.upper_bound) c.set_of.ensures c.union-covered.ensures in
-    taken-all on.taken (rest-covered _ _ _ _ _ (eqb-true _ _ (sym c.same.ensures ∙ c.if-same.true)))
+    taken-all on.taken (rest-covered _ _ _ _ _ (eqb-true _ _ (sym c.eq.ensures ∙ c.if-eq.true)))
