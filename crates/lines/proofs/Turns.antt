@@ -42,19 +42,19 @@ module _ {S : Type 0} (steps : S → Option (Bor (List ℕ)) → S → Type 0) w
   Gives s ps = YieldsList steps (λ (x : Bor (List ℕ)). x.now) s ps
 
   -- a piece, and those behind it
-  pub record Piece (x : List ℕ) (t : S) (ps : List (List ℕ)) : Type 0 where
+  record Piece (x : List ℕ) (t : S) (ps : List (List ℕ)) : Type 0 where
     pub left : List (List ℕ)
     pub is : ps ≡ x ∷ left
     pub gives : Gives t left
 
   module _ {s t : S} {r : Option (Bor (List ℕ))} where
-    pub some-piece : (ps : List (List ℕ)) (x : Bor (List ℕ)) → Gives s ps → r ≡ Some x → steps s r t → Piece x.now t ps
+    some-piece : (ps : List (List ℕ)) (x : Bor (List ℕ)) → Gives s ps → r ≡ Some x → steps s r t → Piece x.now t ps
     some-piece [] x g e k = absurd (g.runs x t (subst (λ (o : Option (Bor (List ℕ))). steps s o t) e k))
     some-piece (p ∷ ps) x g e k =
         let m = g.runs.1 x t (subst (λ (o : Option (Bor (List ℕ))). steps s o t) e k) in
         record { left = ps; is = ap (λ (y : List ℕ). y ∷ ps) (sym m.0); gives = record { runs = m.1 } }
 
-    pub no-piece : (ps : List (List ℕ)) → Gives s ps → r ≡ None → steps s r t → ps ≡ []
+    no-piece : (ps : List (List ℕ)) → Gives s ps → r ≡ None → steps s r t → ps ≡ []
     no-piece [] g e k = refl
     no-piece (p ∷ ps) g e k = absurd (g.runs.0 t (subst (λ (o : Option (Bor (List ℕ))). steps s o t) e k))
 
@@ -65,31 +65,36 @@ module _ {S : Type 0} (steps : S → Option (Bor (List ℕ)) → S → Type 0) w
     pub room : n + n + span left ≤ 512
     pub whole : numbers_of (behind rest) ≡ onto (take n numbers) (numbers_of left)
 
-  module _ (s t : S) (rest numbers : List ℕ) (n : ℕ) (h : Turn s rest numbers n) (p : List ℕ) (k : Piece p t h.left) where
-    here : numbers_of (behind rest) ≡ onto (take n numbers) (numbers_of (p ∷ k.left))
-    here = h.whole ∙ ap (λ (ps : List (List ℕ)). onto (take n numbers) (numbers_of ps)) k.is
+  -- a piece that is given in a turn
+  module _ {s t : S} {rest numbers : List ℕ} {n : ℕ} (h : Turn s rest numbers n) (x : Bor (List ℕ)) {r : Option (Bor (List ℕ))} (is : r ≡ Some x) (k : steps s r t) where
+    given : Piece x.now t h.left
+    given = some-piece h.left x h.gives is k
 
-    pub bad-piece : number_in p ≡ None → numbers_of (behind rest) ≡ None
-    bad-piece b = turn-bad numbers n p k.left (numbers_of (behind rest)) here b
+    here : numbers_of (behind rest) ≡ onto (take n numbers) (numbers_of (x.now ∷ given.left))
+    here = h.whole ∙ ap (λ (ps : List (List ℕ)). onto (take n numbers) (numbers_of ps)) given.is
+
+    pub bad-piece : number_in x.now ≡ None → numbers_of (behind rest) ≡ None
+    bad-piece b = turn-bad numbers n x.now given.left (numbers_of (behind rest)) here b
 
     -- a number has a digit
-    pub has-room : (x : ℕ) → number_in p ≡ Some x → n < 256
+    pub has-room : (y : ℕ) → number_in x.now ≡ Some y → n < 256
     unfolding span
-    has-room x g = omega (arith, number-long p x g, h.room, ap span k.is)
+    has-room y g = omega (arith, number-long x.now y g, h.room, ap span given.is)
 
-    pub goes-on : (x : ℕ) → number_in p ≡ Some x → 256 ≤ length numbers → Turn t rest (set numbers n x) (n + 1)
+    pub goes-on : (y : ℕ) → number_in x.now ≡ Some y → 256 ≤ length numbers → Turn t rest (set numbers n y) (n + 1)
     unfolding span
-    goes-on x g l =
+    goes-on y g l =
         record {
-          left = k.left;
-          gives = k.gives;
-          room = omega (arith, number-long p x g, h.room, ap span k.is);
-          whole = turn-good numbers n p k.left (numbers_of (behind rest)) here x g (omega (arith, has-room x g, l));
+          left = given.left;
+          gives = given.gives;
+          room = omega (arith, number-long x.now y g, h.room, ap span given.is);
+          whole = turn-good numbers n x.now given.left (numbers_of (behind rest)) here y g (omega (arith, has-room y g, l));
         }
 
-  pub ended : (s : S) (rest numbers : List ℕ) (n : ℕ) (h : Turn s rest numbers n) → h.left ≡ [] → numbers_of (behind rest) ≡ Some (take n numbers)
+  pub ended : {s t : S} {rest numbers : List ℕ} {n : ℕ} (h : Turn s rest numbers n) {r : Option (Bor (List ℕ))} → r ≡ None → steps s r t → numbers_of (behind rest) ≡ Some (take n numbers)
   unfolding numbers_of every
-  ended s rest numbers n h e = h.whole ∙ ap (λ (ps : List (List ℕ)). onto (take n numbers) (numbers_of ps)) e ∙ onto-none (take n numbers)
+  ended {numbers = numbers} {n = n} h is k =
+      h.whole ∙ ap (λ (ps : List (List ℕ)). onto (take n numbers) (numbers_of ps)) (no-piece h.left h.gives is k) ∙ onto-none (take n numbers)
 
 -- at the first piece: `split` gives all pieces, and `skip` passes over the one in front of the space
 pub starts : {F : Type 0} (g : Mut F (Bor ℕ × Unit {0}) Bool) {s : Skip (Split ℕ F)} {m : Split ℕ F} {f : F} (rest numbers : List ℕ) → Rest rest

@@ -1,7 +1,7 @@
 -- `lines::request::read_numbers` meets its contract. The invariant: the numbers read stand in front of those of the pieces still to come. Assumes nothing.
 use Rattle.std.proofs.Common.{refl, sym, ◌∙◌, arith, rules, tests}
 use lib.ListN.{length-set}
-use Rattle.lines.proofs.Turns.{some-piece, no-piece, starts, bad-piece, has-room, goes-on, ended}
+use Rattle.lines.proofs.Turns.{starts, bad-piece, has-room, goes-on, ended}
 use Rattle.lines.proofs.request.read_numbers.Goals as goal
 
 pub loop-piece-init : goal.loop-piece-init
@@ -12,30 +12,18 @@ loop-piece-init c =
 
 pub returns-in_err-numbers-clause-numbers_after : goal.returns-in_err-numbers-clause-numbers_after
 returns-in_err-numbers-clause-numbers_after c =
-    let l = c.loop-piece in
-    let h = l.invariant.1 in
-    let p = some-piece _ h.left c.in-Some.piece h.gives c.in-Some.is c.next.ensures.steps in
     rw c.from_residual.ensures
-    (sym (bad-piece _ _ _ c.args.rest.now l.numbers l.count h c.in-Some.piece.now p (sym c.number_in.ensures ∙ c.in_err-numbers.was)))
+    (sym (bad-piece _ c.loop-piece.invariant.1 c.in-Some.piece c.in-Some.is c.next.ensures.steps (sym c.number_in.ensures ∙ c.in_err-numbers.was)))
 
 pub bounds-numbers-count : goal.bounds-numbers-count
 bounds-numbers-count c =
-    let l = c.loop-piece in
-    let h = l.invariant.1 in
-    let p = some-piece _ h.left c.in-Some.piece h.gives c.in-Some.is c.next.ensures.steps in
-    omega (arith, has-room _ _ _ c.args.rest.now l.numbers l.count h c.in-Some.piece.now p c.in_ok-numbers.field-0 (sym c.number_in.ensures ∙ c.in_ok-numbers.was))
+    omega (arith, has-room _ c.loop-piece.invariant.1 c.in-Some.piece c.in-Some.is c.next.ensures.steps _ (sym c.number_in.ensures ∙ c.in_ok-numbers.was))
 
 pub loop-piece-preserved : goal.loop-piece-preserved
-loop-piece-preserved c =
-    let l = c.loop-piece in
-    let h = l.invariant.1 in
-    let p = some-piece _ h.left c.in-Some.piece h.gives c.in-Some.is c.next.ensures.steps in (
-      simp length-set l.invariant.0,
-      goes-on _ _ _ c.args.rest.now l.numbers l.count h c.in-Some.piece.now p c.in_ok-numbers.field-0 (sym c.number_in.ensures ∙ c.in_ok-numbers.was) (omega arith),
-    )
+loop-piece-preserved c = (
+  simp length-set c.loop-piece.invariant.0,
+  goes-on _ c.loop-piece.invariant.1 c.in-Some.piece c.in-Some.is c.next.ensures.steps _ (sym c.number_in.ensures ∙ c.in_ok-numbers.was) (omega arith),
+)
 
 pub returns-clause-numbers_after : goal.returns-clause-numbers_after
-returns-clause-numbers_after c =
-    let l = c.loop-piece in
-    let h = l.invariant.1 in
-    sym (ended _ _ c.args.rest.now l.numbers l.count h (no-piece _ h.left h.gives c.in-None.is c.next.ensures.steps))
+returns-clause-numbers_after c = sym (ended _ c.loop-piece.invariant.1 c.in-None.is c.next.ensures.steps)
