@@ -10,6 +10,7 @@ ghost use Rattle.layer.specs.Lent.{layer_in};
 ghost use Rattle.layer.specs.Make.{sets_only};
 ghost use Rattle.plan.specs.Judge.{Ready, request_of, plan, judged, limited, holders_are, Few, part, lock_part, settled_part, group_part, joint, after_of, grant_part, grant_plan};
 
+use crate::book::SoundBook;
 use crate::leave::leave_part;
 use crate::waiting::waiting;
 use crate::{Plan, Request};
@@ -174,21 +175,6 @@ fn with_neighbours(h: Head, ov: &[u8], n: usize, holders: Users, s: Part) -> Par
     lock_rows(h, ov, holders, n) + s
 }
 
-// ---- join
-
-pub fn judge_join(h: Head, t: &Tables<'_>, room: usize) -> Result<Plan, Refusal>
-    requires { Ready h (tables_of t.now) }
-    ensures { result ≡ judged joins (book_in h (tables_of t.now)) room }
-{
-    if h.users.0 >= Joined::LIMIT {
-        return Err(Refusal::UsersFull);
-    }
-    if room < 2 {
-        return Err(Refusal::ShortList);
-    }
-    Ok(plain(false))
-}
-
 // ---- insert
 
 // The inner layer as it lies in the tables.
@@ -219,7 +205,7 @@ fn holders_are(l: &Layer<'_>, list: Users) -> bool
     ensures { result ≡ holders_are (layer_in l.now) (set_in list) }
 {
     match find_set(l.vertices, l.shape.vertices, list) {
-        Some(v) => all_holders(l, InnerVertex(v as u16)).same(list),
+        Some(v) => all_holders(l, InnerVertex(v as u16)) == list,
         None => true,
     }
 }
@@ -229,51 +215,7 @@ fn insert_free(h: Head, l: &Layer<'_>, list: Users) -> bool
     requires { l.now.shape.vertices < 65536 }
     ensures { result ≡ (eqb h.mode.0 1 && holders_are (layer_in l.now) (set_in list)) }
 {
-    h.mode.0 == 1 && holders_are(l, list)
-}
-
-pub fn judge_insert(h: Head, t: &Tables<'_>, l: Users, room: usize) -> Result<Plan, Refusal>
-    requires { Ready h (tables_of t.now) }
-    ensures { result ≡ judged (inserts (set_in l)) (book_in h (tables_of t.now)) room }
-{
-    if !l.below(h.users.0) {
-        return Err(Refusal::NoSuch);
-    }
-    if !l.apart(h.leavers) {
-        return Err(Refusal::HasLeft);
-    }
-    if l.same(Users::empty()) {
-        return Err(Refusal::EmptyList);
-    }
-    if h.resources.0 >= Resources::LIMIT {
-        return Err(Refusal::ResourcesFull);
-    }
-    let free = insert_free(h, &inner_layer(h, t), l);
-    let i = new_rows(t.inner_vertices, h.inner_vertices.0 as usize, l);
-    let s = settled(h, t.outer_vertices, free, OuterVertex(OuterVertex::NONE), l);
-    let a = rows_after(h, i.tokens, i.vertices + i.tokens + 1, s);
-    limits(a, room, plain(free))
-}
-
-// ---- revoke
-
-pub fn judge_revoke(
-    h: Head,
-    t: &Tables<'_>,
-    r: Resource,
-    u: User,
-    room: usize,
-) -> Result<Plan, Refusal>
-    requires { Ready h (tables_of t.now) }
-    ensures { result ≡ judged (revokes r.0 u.0) (book_in h (tables_of t.now)) room }
-{
-    exist(h, r, u)?;
-    let x = resource_in(t.resources, h.resources.0 as usize, r.0 as usize);
-    if !x.list.has(u) {
-        return Err(Refusal::NotListed);
-    }
-    let s = lock_rows(h, t.outer_vertices, x.list.without(u), 1);
-    limits(rows_after(h, 0, 0, s), room, plain(false))
+    h.mode.is_delta() && holders_are(l, list)
 }
 
 // ---- grant
@@ -286,7 +228,7 @@ fn grant_plan(h: Head, l: &Layer<'_>, x: ResourceRow, u: User) -> Plan
     let holders = all_holders(l, x.inner);
     let after = holders.with(u);
     Plan {
-        free: h.mode.0 == 1 && after.same(x.list.with(u)),
+        free: h.mode.is_delta() && after == x.list.with(u),
         token: !holders.has(u),
         holders,
     }
@@ -303,45 +245,104 @@ fn grant_part(h: Head, ov: &[u8], rs: &[u8], r: Resource, u: User, x: ResourceRo
     with_neighbours(h, ov, n, p.holders, s)
 }
 
-pub fn judge_grant(
-    h: Head,
-    t: &Tables<'_>,
-    r: Resource,
-    u: User,
-    room: usize,
-) -> Result<Plan, Refusal>
-    requires { Ready h (tables_of t.now) }
-    ensures { result ≡ judged (grants r.0 u.0) (book_in h (tables_of t.now)) room }
-{
-    exist(h, r, u)?;
-    if h.leavers.has(u) {
-        return Err(Refusal::HasLeft);
-    }
-    let x = resource_in(t.resources, h.resources.0 as usize, r.0 as usize);
-    if x.list.has(u) {
-        return Err(Refusal::Listed);
-    }
-    let p = grant_plan(h, &inner_layer(h, t), x, u);
-    let s = grant_part(h, t.outer_vertices, t.resources, r, u, x, p);
-    // A kind 1 token and its order, or none.
-    let more = usize::from(p.token);
-    limits(rows_after(h, more, more, s), room, p)
-}
+// ---- each request
 
-// ---- leave
+impl SoundBook<'_> {
+    pub fn judge_join(&self, room: usize) -> Result<Plan, Refusal>
+        ensures { result ≡ judged joins (book_in self.now.head (tables_of self.now.tables)) room }
+    {
+        let h = self.head;
+        if h.users.0 >= Joined::LIMIT {
+            return Err(Refusal::UsersFull);
+        }
+        if room < 2 {
+            return Err(Refusal::ShortList);
+        }
+        Ok(plain(false))
+    }
 
-pub fn judge_leave(h: Head, t: &Tables<'_>, u: User, room: usize) -> Result<Plan, Refusal>
-    requires { Ready h (tables_of t.now) }
-    ensures { result ≡ judged (leaves u.0) (book_in h (tables_of t.now)) room }
-{
-    if u.0 >= h.users.0 {
-        return Err(Refusal::NoSuch);
+    pub fn judge_insert(&self, l: Users, room: usize) -> Result<Plan, Refusal>
+        ensures { result ≡ judged (inserts (set_in l)) (book_in self.now.head (tables_of self.now.tables)) room }
+    {
+        let h = self.head;
+        if !l.below(h.users.0) {
+            return Err(Refusal::NoSuch);
+        }
+        if !l.apart(h.leavers) {
+            return Err(Refusal::HasLeft);
+        }
+        if l == Users::empty() {
+            return Err(Refusal::EmptyList);
+        }
+        if h.resources.0 >= Resources::LIMIT {
+            return Err(Refusal::ResourcesFull);
+        }
+        let free = insert_free(h, &inner_layer(h, &self.tables), l);
+        let i = new_rows(self.tables.inner_vertices, h.inner_vertices.0 as usize, l);
+        let s = settled(
+            h,
+            self.tables.outer_vertices,
+            free,
+            OuterVertex(OuterVertex::NONE),
+            l,
+        );
+        let a = rows_after(h, i.tokens, i.vertices + i.tokens + 1, s);
+        limits(a, room, plain(free))
     }
-    if h.leavers.has(u) {
-        return Err(Refusal::HasLeft);
+
+    pub fn judge_revoke(&self, r: Resource, u: User, room: usize) -> Result<Plan, Refusal>
+        ensures { result ≡ judged (revokes r.0 u.0) (book_in self.now.head (tables_of self.now.tables)) room }
+    {
+        let h = self.head;
+        exist(h, r, u)?;
+        let x = resource_in(self.tables.resources, h.resources.0 as usize, r.0 as usize);
+        if !x.list.has(u) {
+            return Err(Refusal::NotListed);
+        }
+        let s = lock_rows(h, self.tables.outer_vertices, x.list.without(u), 1);
+        limits(rows_after(h, 0, 0, s), room, plain(false))
     }
-    let p = leave_part(h, t.outer_vertices, t.resources, u);
-    limits(rows_after(h, 0, 0, p), room, plain(false))
+
+    pub fn judge_grant(&self, r: Resource, u: User, room: usize) -> Result<Plan, Refusal>
+        ensures { result ≡ judged (grants r.0 u.0) (book_in self.now.head (tables_of self.now.tables)) room }
+    {
+        let h = self.head;
+        exist(h, r, u)?;
+        if h.leavers.has(u) {
+            return Err(Refusal::HasLeft);
+        }
+        let x = resource_in(self.tables.resources, h.resources.0 as usize, r.0 as usize);
+        if x.list.has(u) {
+            return Err(Refusal::Listed);
+        }
+        let p = grant_plan(h, &inner_layer(h, &self.tables), x, u);
+        let s = grant_part(
+            h,
+            self.tables.outer_vertices,
+            self.tables.resources,
+            r,
+            u,
+            x,
+            p,
+        );
+        // A kind 1 token and its order, or none.
+        let more = usize::from(p.token);
+        limits(rows_after(h, more, more, s), room, p)
+    }
+
+    pub fn judge_leave(&self, u: User, room: usize) -> Result<Plan, Refusal>
+        ensures { result ≡ judged (leaves u.0) (book_in self.now.head (tables_of self.now.tables)) room }
+    {
+        let h = self.head;
+        if u.0 >= h.users.0 {
+            return Err(Refusal::NoSuch);
+        }
+        if h.leavers.has(u) {
+            return Err(Refusal::HasLeft);
+        }
+        let p = leave_part(h, self.tables.outer_vertices, self.tables.resources, u);
+        limits(rows_after(h, 0, 0, p), room, plain(false))
+    }
 }
 
 // The refusals of a request from 1 on, else its plan.
@@ -349,11 +350,15 @@ pub fn judge(h: Head, t: &Tables<'_>, q: Request, room: usize) -> Result<Plan, R
     requires { Ready h (tables_of t.now) }
     ensures { result ≡ judged (request_of q) (book_in h (tables_of t.now)) room }
 {
+    let book = SoundBook {
+        head: h,
+        tables: *t,
+    };
     match q {
-        Request::Join => judge_join(h, t, room),
-        Request::Insert(l) => judge_insert(h, t, l, room),
-        Request::Grant(r, u) => judge_grant(h, t, r, u, room),
-        Request::Revoke(r, u) => judge_revoke(h, t, r, u, room),
-        Request::Leave(u) => judge_leave(h, t, u, room),
+        Request::Join => book.judge_join(room),
+        Request::Insert(l) => book.judge_insert(l, room),
+        Request::Grant(r, u) => book.judge_grant(r, u, room),
+        Request::Revoke(r, u) => book.judge_revoke(r, u, room),
+        Request::Leave(u) => book.judge_leave(u, room),
     }
 }

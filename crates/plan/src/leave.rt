@@ -31,7 +31,7 @@ fn leaver_rows(l: &Foreseen<'_>, r: usize) -> Part
     Part::locking(l.new_rows(x.list.without(u)), 1)
 }
 
-// New vertices at most: one for each resource.
+// New vertices at most: one for each resource. Their places are an array and not a Vec: nothing here is on a heap.
 const PLACES: usize = Resources::LIMIT as usize;
 
 // The outer part of a leave of u. Place i of `firsts` has the first resource that new vertex i is made for. The place behind the last is written each time, and counts where a vertex is new.

@@ -4,6 +4,7 @@
 use rules::Resource;
 use sets::{User, Users};
 
+pub mod book;
 pub mod judge;
 pub mod leave;
 pub mod waiting;
@@ -19,6 +20,7 @@ pub enum Request {
 }
 
 // What applying a request needs to know: whether the folder will have no outer key, whether a kind 1 token is added, and the holders before.
+// The holders of a grant are told where no token is added too (`judge` promises them), so they stand beside the two answers and not inside one.
 #[derive(Clone, Copy)]
 pub struct Plan {
     pub free: bool,
