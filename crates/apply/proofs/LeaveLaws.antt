@@ -36,7 +36,7 @@ unfolding gone done with_leavers book_in order_rows joined
 works-gone h t list at u e =
     record {
       book = rw e;
-      grown = record { inner_vertices = omega arith; inner_tokens = omega arith; outer_vertices = omega arith; outer_tokens = omega arith; resources = omega arith };
+      grown = grind arith;
       past = rest past-none past-none past-none past-none past-none;
       orders = sym (stored-none (at * 3) list);
       next = omega arith;

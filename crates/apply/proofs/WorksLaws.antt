@@ -69,15 +69,12 @@ abbrev pub rest : {h : Head} {t u : Tables} → Past h.inner_vertices.0 bytes t.
     → Past h.outer_tokens.0 4 t.outer_tokens u.outer_tokens → Past h.resources.0 (bytes + 4) t.resources u.resources → Rest h t u
 rest iv it ov ot rs = record { inner_vertices = iv; inner_tokens = it; outer_vertices = ov; outer_tokens = ot; resources = rs }
 
-pub grown-none : (h : Head) → Grown h h
-grown-none h = record { inner_vertices = omega arith; inner_tokens = omega arith; outer_vertices = omega arith; outer_tokens = omega arith; resources = omega arith }
-
 pub works-none : {h : Head} {t : Tables} {list : List ℕ} {at : ℕ} → Works (done (book_in h t) []) h t list at (record { head = h; at = at }) t list
 unfolding done order_rows joined
 works-none {h} {t} {list} {at} =
     record {
       book = refl;
-      grown = grown-none h;
+      grown = grind arith;
       past = rest past-none past-none past-none past-none past-none;
       orders = sym (stored-none (at * 3) list);
       next = omega arith;
@@ -93,7 +90,7 @@ works-then {d} f {h} {t} {u} {w} {list} {l1} {l2} {at} {s} {z} room p q =
     let k : Grown s.head z.head = q.grown in
     record {
       book = q.book;
-      grown = record { inner_vertices = omega arith; inner_tokens = omega arith; outer_vertices = omega arith; outer_tokens = omega arith; resources = omega arith };
+      grown = grind arith;
       past =
           rest (past-then k.inner_vertices p.past.inner_vertices q.past.inner_vertices)
           (past-then k.inner_tokens p.past.inner_tokens q.past.inner_tokens)
@@ -150,7 +147,7 @@ unfolding done with_resources book_in
 works-rows h t at os p o =
     record {
       book = ap (with_resources (book_in h t)) p.rows;
-      grown = grown-none h;
+      grown = grind arith;
       past = rest past-none past-none past-none past-none (record { rest = p.rest; same = p.same });
       orders = o;
       next = refl;
@@ -250,7 +247,7 @@ unfolding encrypt done with_resources book_in order_rows joined
 works-row h t list at l v p =
     record {
       book = ap (with_resources (book_in h t)) p.rows;
-      grown = record { inner_vertices = omega arith; inner_tokens = omega arith; outer_vertices = omega arith; outer_tokens = omega arith; resources = omega arith };
+      grown = grind arith;
       past = rest past-none past-none past-none past-none (record { rest = p.rest; same = p.same });
       orders = sym (stored-none (at * 3) list);
       next = omega arith;
@@ -261,7 +258,7 @@ pub works-told : (h : Head) (t : Tables) {list l' : List ℕ} (at k x y : ℕ) �
     → Works (done (book_in h t) (order k x y ∷ [])) h t list at (step h (at + 1)) t l'
 unfolding done order_rows order_row joined
 works-told h t at k x y e =
-    record { book = refl; grown = grown-none h; past = rest past-none past-none past-none past-none past-none; orders = e; next = refl }
+    record { book = refl; grown = grind arith; past = rest past-none past-none past-none past-none past-none; orders = e; next = refl }
 
 -- the list keeps its length
 pub works-length : {d : Done} {h : Head} {t u : Tables} {list l' : List ℕ} {at : ℕ} {s : Step} → (at + length d.orders) * 3 ≤ length list
@@ -350,13 +347,7 @@ works-laid h t u r b p =
 
 -- tables of the same lengths have the same room
 pub room-past : {h k : Head} {t u : Tables} → Rest k t u → Room h t → Room h u
-room-past p r = record {
-  inner_vertices = omega (arith, p.inner_vertices.same);
-  inner_tokens = omega (arith, p.inner_tokens.same);
-  outer_vertices = omega (arith, p.outer_vertices.same);
-  outer_tokens = omega (arith, p.outer_tokens.same);
-  resources = omega (arith, p.resources.same);
-}
+room-past p r = grind arith
 
 pub works-change : (q : Request) {h : Head} {t u : Tables} {list l' : List ℕ} {s : Step} → Accepted q h t list → TableBytes u
     → Works (work q (book_in h t)) h t list 0 s u l' → applied (record { head = s.head; count = s.at }) u l' ≡ change q h t list

@@ -28,6 +28,7 @@ pub mod grant;
 pub mod leave;
 pub mod step;
 
+#[tactic(auto, using(crate::proofs::ApplyLaws::join_room))]
 pub fn apply_join(h: Head, t: &mut TablesMut<'_>, orders: &mut [u16]) -> Applied
     requires { Accepted joins h (tables_mut t.old) orders.old }
     ensures same { SameTables t.old t.new }

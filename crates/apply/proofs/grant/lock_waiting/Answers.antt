@@ -1,14 +1,15 @@
 -- `apply::grant::lock_waiting` meets its contract. Assumes nothing.
-use mathlib.Core.Path.{ap}
+use mathlib.Core.Path.{sym, ap, ◌∙◌}
+use Rattle.std.proofs.lemmas.List.{nil_from_length}
 use native.Mathlib.Omega.{arith}
 use Rattle.rules.specs.Bytes.{Tables}
-use Rattle.apply.proofs.GrantWorks.{group-none, none_left, some_left, some-wait, relocks-room, told-long, counts-room, works-group}
+use Rattle.apply.proofs.GrantWorks.{group-none, some_left, some-wait, relocks-room, told-long, counts-room, works-group}
 use Rattle.apply.proofs.grant.lock_waiting.Goals as goal
 
 pub returns-then-waiting-eq0-clause-works : goal.returns-then-waiting-eq0-clause-works
 returns-then-waiting-eq0-clause-works c =
     let count = rw (ap (λ (x : Tables). x.resources) c.read.ensures) at c.waiting.ensures.value in
-    group-none _ (none_left _ count c.if-waiting-eq0.true)
+    group-none _ (nil_from_length _ (sym count ∙ c.if-waiting-eq0.true))
 
 pub relock_waiting-at-requires-clause-list_in_bounds : goal.relock_waiting-at-requires-clause-list_in_bounds
 relock_waiting-at-requires-clause-list_in_bounds c =
