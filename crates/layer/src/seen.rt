@@ -60,6 +60,6 @@ impl Foreseen<'_> {
         ensures { result ≡ found_in (self.now.seen.vertices + self.now.seen.new) (first (is_set (set_in s)) (sets_then self.now)) }
     {
         let n = self.seen.vertices + self.seen.new;
-        (0..n).position(|v| self.set_of(v).same(s))
+        (0..n).position(|v| self.set_of(v) == s)
     }
 }

@@ -15,7 +15,7 @@ shape_of-tokens-then-width-eq-WIDTH c = simp length-set (search rules)
 
 pub returns-then-width-eq-WIDTH : goal.returns-then-width-eq-WIDTH
 returns-then-width-eq-WIDTH c =
-    let both : c.put2-2.new.t ≡ ends (c.args.row * c.args.width) c.args.t c.args.tokens.now = c.put2-2.ensures ∙ ap (stored (c.args.row * c.args.width + 2) (bytes_of 2 c.args.t.to)) c.put2.ensures in
+    let both : c.put-2.new.t ≡ ends (c.args.row * c.args.width) c.args.t c.args.tokens.now = c.put-2.ensures ∙ ap (stored (c.args.row * c.args.width + 2) (bytes_of 2 c.args.t.to)) c.put.ensures in
     let of_width : (w : ℕ) → c.args.width ≡ w → let at = c.args.row * c.args.width in
     stored at (token_row w c.args.t) c.args.tokens.now ≡ stored at (token_row c.args.width c.args.t) c.args.tokens.now = λ w e. ap (λ (n : ℕ). stored (c.args.row * c.args.width) (token_row n c.args.t) c.args.tokens.now) (sym e) in
     let at = c.args.row * c.args.width in
@@ -26,7 +26,7 @@ returns-then-width-eq-WIDTH c =
 
 pub returns-else-width-eq-WIDTH : goal.returns-else-width-eq-WIDTH
 returns-else-width-eq-WIDTH c =
-    let both : c.put2-2.new.t ≡ ends (c.args.row * c.args.width) c.args.t c.args.tokens.now = c.put2-2.ensures ∙ ap (stored (c.args.row * c.args.width + 2) (bytes_of 2 c.args.t.to)) c.put2.ensures in
+    let both : c.put-2.new.t ≡ ends (c.args.row * c.args.width) c.args.t c.args.tokens.now = c.put-2.ensures ∙ ap (stored (c.args.row * c.args.width + 2) (bytes_of 2 c.args.t.to)) c.put.ensures in
     let of_width : (w : ℕ) → c.args.width ≡ w → let at = c.args.row * c.args.width in
     stored at (token_row w c.args.t) c.args.tokens.now ≡ stored at (token_row c.args.width c.args.t) c.args.tokens.now = λ w e. ap (λ (n : ℕ). stored (c.args.row * c.args.width) (token_row n c.args.t) c.args.tokens.now) (sym e) in
     let at = c.args.row * c.args.width in

@@ -1,16 +1,14 @@
--- `layer::laid::Foreseen::cover` meets its contract: at each turn of both loops, what is taken and what is left to take are the cover. Assumes nothing.
-use Rattle.std.proofs.Common.{◌≡◌, sym, ap₂, ◌∙◌, refl, ℕ, ◌≤◌, length, arith, tests}
+-- `layer::laid::Foreseen::cover` meets its contract: at each turn of each loop, what is taken and what is left to take are the cover. Assumes nothing.
+use Rattle.std.proofs.Common.{sym, ap₂, ◌∙◌, refl, ℕ, arith}
 use borrow.Author.Tests.{eqb-true}
-use Rattle.sets.specs.Words.{people, set_in}
-use Rattle.layer.specs.Cover.{cover_of}
+use Rattle.sets.specs.Words.{set_in}
 use Rattle.layer.specs.Lent.{sets_then}
 use Rattle.layer.proofs.SeenLaws.{length_seen}
 use Rattle.layer.proofs.CoverLaws.{lower, cover-short, rest-past, rest-covered, lower-start, lower-next, lower_end, taken-on, taken-all, walk-miss, walk-room, walk-hit}
 use Rattle.layer.proofs.laid.Foreseen.cover.Goals as goal
-use Rattle.layer.proofs.laid.Foreseen.cover.Goals.{then-adds+else-same, else-adds}
 
-pub loop-k-init : goal.loop-k-init
-loop-k-init c =
+pub sizes-init : goal.sizes-init
+sizes-init c =
     let s = set_in c.args.s in
     let sets = sets_then c.args.self.now in
     record {
@@ -19,48 +17,54 @@ loop-k-init c =
       places = refl;
     }
 
-pub loop-v-init : goal.loop-v-init
-loop-v-init c = taken-on c.loop-k.invariant (lower-next _ _ _ _ c.loop-k-test.true)
+pub loop-i-init : goal.loop-i-init
+loop-i-init c = (taken-on c.sizes.invariant (lower-next _ _ _ _ c.sizes-test.true), omega arith)
 
-pub loop-k-preserved : goal.loop-k-preserved
-loop-k-preserved c =
+pub sizes-preserved : goal.sizes-preserved
+sizes-preserved c =
     let many = length_seen _ _ _ _ c.args.self.now.seen_in in
-    taken-on c.loop-v.invariant (rest-past _ _ _ _ _ (omega (arith, many)))
+    taken-on c.loop-i-2.invariant.0 (rest-past _ _ _ _ _ (omega (arith, many, c.if-i-n.true)))
+
+pub loop-i-2-preserved : goal.loop-i-2-preserved
+loop-i-2-preserved c =
+    let many = length_seen _ _ _ _ c.args.self.now.seen_in in
+    (walk-miss _ _ c.loop-i-2.invariant.0 many (omega (arith, c.if-i-n.false, c.loop-i-2.invariant.1)) c.adds.ensures c.if-adds.false, omega (arith, c.if-i-n.false, c.loop-i-2.invariant.1))
 
 pub bounds-from-count : goal.bounds-from-count
 bounds-from-count c =
     let many = length_seen _ _ _ _ c.args.self.now.seen_in in
     let short = cover-short _ _ c.size-k.ensures.value c.size-k.ensures.upper_bound in
-    walk-room _ _ c.loop-v.invariant many c.loop-v-test.true c.adds.ensures c.if-adds.true short
-
-pub loop-v-preserved : goal.loop-v-preserved
-loop-v-preserved c =
-    let many = length_seen _ _ _ _ c.args.self.now.seen_in in
-    let short = cover-short _ _ c.size-k.ensures.value c.size-k.ensures.upper_bound in
-    elim c.if-adds.branch [
-      | then-adds+else-same w ↦
-          rw (w.from-is, w.count-is, w.covered-is)
-          (walk-hit _ _ c.loop-v.invariant many c.loop-v-test.true c.adds.ensures w.if-adds.true short w.set_of.ensures w.union-covered.ensures)
-      | else-adds w ↦ rw (w.from-is, w.count-is, w.covered-is) (walk-miss _ _ c.loop-v.invariant many c.loop-v-test.true c.adds.ensures w.if-adds.false)
-    ]
-
--- nothing is left to take: no set is smaller, or all of s are covered
-pub invariant_of-result-2 : goal.invariant_of-result-2
-invariant_of-result-2 c = record { few = c.loop-k.invariant.few }
-
-pub returns : goal.returns
-returns c = taken-all c.loop-k.invariant (lower_end _ _ _ _ c.loop-k-test.false)
+    walk-room _ _ c.loop-i-2.invariant.0 many (omega (arith, c.if-i-n.false, c.loop-i-2.invariant.1)) c.adds.ensures c.if-adds.true short
 
 pub invariant_of-result : goal.invariant_of-result
 invariant_of-result c =
     let many = length_seen _ _ _ _ c.args.self.now.seen_in in
     let short = cover-short _ _ c.size-k.ensures.value c.size-k.ensures.upper_bound in
-    record { few = (walk-hit _ _ c.loop-v.invariant many c.loop-v-test.true c.adds.ensures c.if-adds.true short c.set_of.ensures c.union-covered.ensures).few }
+    record { few = (walk-hit _ _ c.loop-i-2.invariant.0 many (omega (arith, c.if-i-n.false, c.loop-i-2.invariant.1)) c.adds.ensures c.if-adds.true short c.set_of.ensures c.union-covered.ensures).few }
 
-pub returns-then-same : goal.returns-then-same
-returns-then-same c =
+pub returns-then-eq : goal.returns-then-eq
+returns-then-eq c =
     let many = length_seen _ _ _ _ c.args.self.now.seen_in in
     let short = cover-short _ _ c.size-k.ensures.value c.size-k.ensures.upper_bound in
     taken-all
-    (walk-hit _ _ c.loop-v.invariant many c.loop-v-test.true c.adds.ensures c.if-adds.true short c.set_of.ensures c.union-covered.ensures)
-    (rest-covered _ _ _ _ _ (eqb-true _ _ (sym c.same.ensures ∙ c.if-same.true)))
+    (walk-hit _ _ c.loop-i-2.invariant.0 many (omega (arith, c.if-i-n.false, c.loop-i-2.invariant.1)) c.adds.ensures c.if-adds.true short c.set_of.ensures c.union-covered.ensures)
+    (rest-covered _ _ _ _ _ (eqb-true _ _ (sym c.eq.ensures ∙ c.if-eq.true)))
+
+pub loop-i-smaller : goal.loop-i-smaller
+loop-i-smaller c =
+    let many = length_seen _ _ _ _ c.args.self.now.seen_in in
+    let short = cover-short _ _ c.size-k.ensures.value c.size-k.ensures.upper_bound in
+    omega (arith, walk-room _ _ c.loop-i-2.invariant.0 many (omega (arith, c.if-i-n.false, c.loop-i-2.invariant.1)) c.adds.ensures c.if-adds.true short)
+
+pub loop-i-preserved : goal.loop-i-preserved
+loop-i-preserved c =
+    let many = length_seen _ _ _ _ c.args.self.now.seen_in in
+    let short = cover-short _ _ c.size-k.ensures.value c.size-k.ensures.upper_bound in
+    (walk-hit _ _ c.loop-i-2.invariant.0 many (omega (arith, c.if-i-n.false, c.loop-i-2.invariant.1)) c.adds.ensures c.if-adds.true short c.set_of.ensures c.union-covered.ensures, omega (arith, c.if-i-n.false, c.loop-i-2.invariant.1))
+
+-- nothing is left to take: no set is smaller
+pub invariant_of-result-2 : goal.invariant_of-result-2
+invariant_of-result-2 c = record { few = c.sizes.invariant.few }
+
+pub returns : goal.returns
+returns c = taken-all c.sizes.invariant (lower_end _ _ _ _ c.sizes-test.false)

@@ -12,10 +12,10 @@ use Rattle.layer.proofs.laid.Layer.step_back.Goals as goal
 few : {s : Users} {x : ℕ} → set_in s ≡ x → set_in s < 2 ^ people → size x ≤ people
 few {s} {x} e h = rw (sym e) (size_below people (set_in s) h)
 
-pub returns-then-same : goal.returns-then-same
-returns-then-same c =
+pub returns-then-eq : goal.returns-then-eq
+returns-then-eq c =
     record {
-      value = step-own _ _ _ c.set_of.ensures c.only.ensures c.same.ensures c.if-same.true;
+      value = step-own _ _ _ c.set_of.ensures c.only.ensures c.eq.ensures c.if-eq.true;
       few = few c.set_of.ensures (omega arith);
     }
 
@@ -24,7 +24,7 @@ returns-in_err-row c =
     record {
       value =
           c.from_residual.ensures
-          ∙ step-none _ _ _ c.set_of.ensures c.only.ensures c.same.ensures c.if-same.false (layer-tokens _ _ _) c.find_back.ensures c.in_err-row.was;
+          ∙ step-none _ _ _ c.set_of.ensures c.only.ensures c.eq.ensures c.if-eq.false (layer-tokens _ _ _) c.find_back.ensures c.in_err-row.was;
       few = few c.set_of.ensures (omega arith);
     }
 
@@ -32,7 +32,7 @@ pub returns : goal.returns
 returns c =
     record {
       value =
-          step-at _ _ _ c.set_of.ensures c.only.ensures c.same.ensures c.if-same.false (layer-tokens _ _ _) c.find_back.ensures c.in_ok-row.was
+          step-at _ _ _ c.set_of.ensures c.only.ensures c.eq.ensures c.if-eq.false (layer-tokens _ _ _) c.find_back.ensures c.in_ok-row.was
           c.token_at-t.ensures.value;
       few = few c.set_of.ensures (omega arith);
     }
