@@ -3,19 +3,17 @@
 -- Assumes nothing.
 use Rattle.std.specs.Prelude.{Option, Some, None, is_some}
 use Prim.Native.Nat.{ℕ, ◌+◌, ◌≤◌, ◌<◌}
-use mathlib.Core.Path.{◌≡◌, refl, sym, ap, ap₂, ◌∙◌}
+use mathlib.Core.Path.{◌≡◌, refl, sym, ap, ◌∙◌}
 use mathlib.Core.Bool.{Bool, true, false, ◌||◌, not, cond, or-false}
 use mathlib.Core.List.{List, []}
 use native.Mathlib.Numerals.{add-one}
 use lib.Dec.{eqb, ltb}
 use lib.ListN.{length, take, get_or}
 use lib.Seq.{take_all, take-suc}
-use borrow.Author.Tests.{not-true, not-false, eqb-true, eq-eqb, ne_eqb}
-use Rattle.sets.specs.Sets.{has, single, union, inside, size}
+use borrow.Author.Tests.{eqb-true, eq-eqb, ne_eqb}
+use Rattle.sets.specs.Sets.{has, single, union, size}
 use Rattle.sets.proofs.Laws.{has-empty, has-union, has-own, single-of-size, size-single}
 use Rattle.rules.specs.Lists.{first, some}
-use Rattle.rules.specs.Layer.{Layer, set_of}
-use Rattle.rules.specs.declared.Token.{Token}
 use Rattle.rules.specs.Bytes.{sets_in}
 use Rattle.theorems.proofs.ListLaws.{some-append, some_first}
 use Rattle.layer.specs.Laid.{found_in, is_set}

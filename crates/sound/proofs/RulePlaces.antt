@@ -1,7 +1,7 @@
 -- S1 to S8 of the book in five tables: where each is broken first, by the searches that the check makes.
 -- Assumes nothing.
 use Prim.Native.Nat.{ℕ, ◌^◌, ◌<◌}
-use Rattle.std.specs.Prelude.{Option, None, Result, Ok}
+use Rattle.std.specs.Prelude.{Option, Result, Ok}
 use mathlib.Core.Path.{◌≡◌, refl, sym, ap, ap₂, ◌∙◌, subst}
 use mathlib.Core.Bool.{Bool, true, false, ◌&&◌, ◌||◌, not, true≢false, and-true, not-not}
 use mathlib.Core.Logic.{◌⊎◌, inl, inr}

@@ -3,9 +3,8 @@
 use Rattle.std.specs.Prelude.{Result, Ok, Err, is_ok}
 use Prim.Native.Nat.{◌+◌, ◌*◌}
 use mathlib.Core.Path.{◌≡◌, refl, sym, ap, ◌∙◌}
-use mathlib.Core.Bool.{Bool, true, false, ◌&&◌, ◌||◌, not, and-true, true≢false, false≢true}
+use mathlib.Core.Bool.{Bool, true, false, ◌&&◌, ◌||◌, not}
 use mathlib.Core.Option.{Option, some, none}
-use mathlib.Core.List.{[], ◌∷◌}
 use lib.Dec.{ltb, leb}
 use lib.ListN.{length}
 use borrow.Author.Tests.{not-true, not-false}

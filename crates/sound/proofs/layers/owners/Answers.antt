@@ -1,6 +1,6 @@
 -- `sound::layers::owners` meets its contract. The loop's invariant: `own` names the users who have one of the first v sets for themselves.
 -- Assumes nothing.
-use Rattle.std.proofs.Common.{ap, ◌∙◌, ◌≤◌, ◌<◌, length, arith}
+use Rattle.std.proofs.Common.{ap, ◌∙◌, ◌≤◌, ◌<◌, length}
 use Rattle.sets.specs.Words.{set_in}
 use Rattle.rules.specs.Bytes.{sets_in}
 use Rattle.layer.proofs.Read.{length-sets}

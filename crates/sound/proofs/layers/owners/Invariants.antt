@@ -1,4 +1,3 @@
-use Prim.Native.Nat.{ℕ}
 use lib.ListN.{take}
 use Rattle.sets.specs.Words.{set_in}
 use Rattle.rules.specs.Bytes.{sets_in}

@@ -1,9 +1,7 @@
 -- `sound::layers::ownless` meets its contract.
 -- Assumes nothing.
 use Rattle.std.proofs.Common.{rules, tests}
-use Rattle.rules.specs.Bytes.{sets_in}
 use Rattle.layer.proofs.Search.{placed_number}
-use Rattle.sound.specs.Faults.{has_own_in}
 use Rattle.sound.proofs.layers.ownless.Goals as goal
 
 pub returns : goal.returns

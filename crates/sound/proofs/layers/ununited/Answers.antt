@@ -1,6 +1,6 @@
 -- `sound::layers::ununited` meets its contract.
 -- Assumes nothing.
-use Rattle.std.proofs.Common.{rules, tests, ◌≡◌, ◌<◌, ◌∙◌, ap, not, length, arith}
+use Rattle.std.proofs.Common.{rules, ◌≡◌, ◌∙◌, ap, not, arith}
 use Rattle.rules.specs.Lists.{numbered}
 use Rattle.rules.specs.Layer.{set_of}
 use Rattle.rules.specs.Sound.{united_vertex}

@@ -1,9 +1,8 @@
 -- `sound::resources::placed` meets its contract: one test after the other.
 -- Assumes nothing.
-use Rattle.std.proofs.Common.{◌≡◌, ◌&&◌, ◌||◌, ◌∙◌, ap, not, true, false, Bool, refl}
+use Rattle.std.proofs.Common.{◌≡◌, ◌&&◌, ◌||◌, ◌∙◌, not}
 use lib.Dec.{ltb}
 use borrow.Author.Tests.{eq-eqb, ne_eqb}
-use Rattle.sets.specs.Words.{set_in}
 use Rattle.rules.specs.Book.{has_outer}
 use Rattle.layer.specs.Laid.{resource_is}
 use Rattle.sound.proofs.Verdicts.{first-yes, first-no}
