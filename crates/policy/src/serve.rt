@@ -55,7 +55,7 @@ fn row_asks(kind: u64, a: u64, b: u64) -> Option<Asks>
             if b != 0 {
                 return None;
             }
-            Some(Asks::Change(Request::Insert(Users::of_word(a))))
+            Some(Asks::Change(Request::Insert(Users::from(a))))
         }
         RequestKind::Grant => {
             let r = Resource(number(a)?);
