@@ -75,7 +75,7 @@ pub fn not_rising(l: &Layer<'_>) -> Option<usize>
     (0..l.shape.tokens).position(|i| {
         let t = l.token_at(i);
         let from = l.set_of(t.from as usize);
-        t.kind != 1 && (from.same(Users::empty()) || !from.inside(l.set_of(t.to as usize)))
+        t.kind != 1 && (from == Users::empty() || !from.inside(l.set_of(t.to as usize)))
     })
 }
 
@@ -110,7 +110,7 @@ pub fn equal_set(vertices: &[u8], n: usize) -> Option<usize>
 fn united(s: Users, all: Users) -> bool
     ensures { result ≡ united_by (set_in s) (set_in all) }
 {
-    s.same(all) || s.size() == 1
+    s == all || s.size() == 1
 }
 
 // S5: the first group vertex whose set is not the union of its sources' sets.
