@@ -144,11 +144,11 @@ fn answer_one(
     }
 }
 
-// The answer row of a request: the refusal's number or 0, the view for 11, the count of its rows. The head and the count after it are given back.
+// The answer row of a request: the refusal's number or 0, the view for 11, the count of its rows. It gives the head and the count after the request.
 fn put_answer(h: Head, a: Result<Applied, Refusal>, answers: &mut [u16], row: usize) -> Applied
     requires { row * 3 + 3 ≤ length answers.old }
-    ensures after { result ≡ after h a }
-    ensures stored { answers.new ≡ stored (row * 3) (answer_row a) answers.old }
+    ensures value { result ≡ after h a }
+    ensures answers_after { answers.new ≡ stored (row * 3) (answer_row a) answers.old }
 {
     match a {
         Ok(done) => {
