@@ -1,15 +1,16 @@
 -- What the C interface answers, from what the calls below it answer: each law is one way out of a call.
 -- Assumes nothing.
-use Rattle.std.specs.Prelude.{Result, Ok, Err}
+use Rattle.std.specs.Prelude.{Result, Ok, Err, IsErrAnd}
+use Rattle.std.proofs.lemmas.Result.{err_from_is_err_and}
 use Prim.Native.Nat.{ℕ, zero, suc, ◌≤◌, ◌<◌}
 use mathlib.Core.Path.{◌≡◌, refl, sym, ap, ap₂, ◌∙◌}
-use mathlib.Core.Bool.{Bool, true, false, not}
+use mathlib.Core.Bool.{Bool, true, false, not, cond}
 use mathlib.Core.List.{List, [], ◌∷◌}
 use mathlib.Core.Option.{Option, some, none}
 use native.Mathlib.Omega.{arith}
 use lib.Dec.{ltb}
 use lib.ListN.{length}
-use borrow.Author.Tests.{lt-ltb, le-ltb, ltb-true}
+use borrow.Author.Tests.{lt-ltb, le-ltb, ltb-true, ltb-false}
 use Rattle.rows.specs.Number.{stored}
 use Rattle.rules.specs.Tests.{when, first_some}
 use Rattle.rules.specs.Bytes.{Tables, version_in, head_in, start, fault, is_book, book_in}
@@ -17,45 +18,49 @@ use Rattle.rules.specs.Refusals.{number, denial_number, denial_place, common, ve
 use Rattle.rules.specs.Calls.{Part, part, part_by, section_call, Load, loading, read_call, Write, writing, write_call}
 use Rattle.rules.specs.declared.Head.{Head}
 use Rattle.rules.specs.declared.Refusal.{Refusal}
-use Rattle.rules.specs.declared.Refusal.TheVariants.{NoSuch}
+use Rattle.rules.specs.declared.Refusal.TheVariants.{NoSuch, ShortTable}
 use Rattle.rules.specs.declared.Denial.{Denial}
 use Rattle.rules.specs.declared.Denial.TheVariants.{Refused}
 use Rattle.rules.specs.declared.Fault.{Fault}
-use Rattle.sound.specs.Check.{checked_by, checked}
-use Rattle.sound.specs.declared.Checked.{Checked}
-use Rattle.sound.specs.declared.Checked.TheVariants.{Sound, No}
+use Rattle.sound.specs.Check.{unless, checked}
 use Rattle.theorems.proofs.FaultLaws.{fault-none}
-use Rattle.host.specs.Answers.{head_length, head_from, head_numbers, told, check_answer, answered, stretch_by, section_answer, loaded_as, read_by, read_answer, written_as, write_by, write_answer}
+use Rattle.host.specs.Answers.{head_length, head_from, head_read, head_numbers, number_of, told, check_answer, answered, stretch_by, section_answer, loaded_as, read_by, read_answer, written_as, write_by, write_answer}
 use Rattle.host.proofs.PlaceLaws.{fault-number}
 
 -- ---- check
 
--- the number that a check's answer is told by
-abbrev told_by : Checked → ℕ
-told_by Sound = 0
-told_by (No r) = number r
+-- the error e that a `?` passes on
+pub passed_on : {A E : Type 0} {e : E} (r : Result A E) → IsErrAnd r (λ y. y ≡ e) → r ≡ Err e
+passed_on r h = let p = err_from_is_err_and r h in p.1 ∙ ap (λ y. Err y) p.2
 
-told-by : (o : Option Refusal) → told_by (checked_by o) ≡ told o
-unfolding checked_by
+-- what a head's numbers give: 13 where they are too few, and else a head
+pub head-short : (l : List ℕ) {r : Result Head Refusal} {e : Refusal} → r ≡ head_read l → r ≡ Err e → (length l < head_length) × (e ≡ ShortTable)
+head-short l {e = e} q is = go (ltb (length l) head_length) refl (sym is ∙ q)
+  where
+    go : (z : Bool) → ltb (length l) head_length ≡ z → Err e ≡ cond z (Err ShortTable) (Ok (head_from l)) → (length l < head_length) × (e ≡ ShortTable)
+    go true k x = (ltb-true (length l) head_length k, cc)
+    go false k x = let z : ◌≡◌ {A = ℕ} 0 1 = cc in absurd (omega arith)
+
+pub head-long : (l : List ℕ) {r : Result Head Refusal} {h : Head} → r ≡ head_read l → r ≡ Ok h → (head_length ≤ length l) × (h ≡ head_from l)
+head-long l {h = h} q is = go (ltb (length l) head_length) refl (sym is ∙ q)
+  where
+    go : (z : Bool) → ltb (length l) head_length ≡ z → Ok h ≡ cond z (Err ShortTable) (Ok (head_from l)) → (head_length ≤ length l) × (h ≡ head_from l)
+    go true k x = let z : ◌≡◌ {A = ℕ} 0 1 = cc in absurd (omega arith)
+    go false k x = (ltb-false (length l) head_length k, cc)
+
+told-by : (o : Option Refusal) → number_of (unless o) ≡ told o
 told-by none = refl
 told-by (some r) = refl
 
-check-told : (l : List ℕ) (t : Tables) {h : Head} {k : Checked} → head_length ≤ length l → h ≡ head_from l → k ≡ checked h t → told_by k ≡ check_answer l t
+pub check-told : (l : List ℕ) (t : Tables) {h : Head} {k : Result (Unit {0}) Refusal} → head_length ≤ length l → h ≡ head_from l → k ≡ checked h t → number_of k ≡ check_answer l t
 unfolding check_answer checked
 check-told l t n eh ek =
     rw (le-ltb (length l) head_length n)
-    (ap told_by (ek ∙ ap (λ (x : Head). checked x t) eh) ∙ told-by (verdict (common t (book_in (head_from l) t))))
+    (ap number_of (ek ∙ ap (λ (x : Head). checked x t) eh) ∙ told-by (verdict (common t (book_in (head_from l) t))))
 
 pub check-short : (l : List ℕ) (t : Tables) → length l < head_length → 13 ≡ check_answer l t
 unfolding check_answer
 check-short l t n = rw (lt-ltb (length l) head_length n)
-
-pub check-refused : (l : List ℕ) (t : Tables) {h : Head} {k : Checked} {n : Refusal} {r : ℕ} → head_length ≤ length l → h ≡ head_from l → k ≡ checked h t → k ≡ No n
-    → r ≡ number n → r ≡ check_answer l t
-check-refused l t n eh ek is er = er ∙ sym (ap told_by is) ∙ check-told l t n eh ek
-
-pub check-passed : (l : List ℕ) (t : Tables) {h : Head} {k : Checked} → head_length ≤ length l → h ≡ head_from l → k ≡ checked h t → k ≡ Sound → 0 ≡ check_answer l t
-check-passed l t n eh ek is = sym (ap told_by is) ∙ check-told l t n eh ek
 
 -- ---- section
 

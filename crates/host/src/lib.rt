@@ -30,7 +30,7 @@ fn leavers_of(head: &[u16]) -> Users
 {
     let high = head[9] as u64 + 0x1_0000 * head[10] as u64;
     let rest = head[8] as u64 + 0x1_0000 * high;
-    Users::of_word(head[7] as u64 + 0x1_0000 * rest)
+    Users::from(head[7] as u64 + 0x1_0000 * rest)
 }
 
 // A set of leavers into a head's numbers.
@@ -38,7 +38,7 @@ fn put_leavers(head: &mut [u16], leavers: Users)
     requires { head_length ≤ length head.old }
     ensures { head.new ≡ stored 7 (set_numbers set_length (set_in leavers)) head.old }
 {
-    let w = leavers.word();
+    let w = u64::from(leavers);
     let x = w / 0x1_0000;
     let y = x / 0x1_0000;
     let z = y / 0x1_0000;
@@ -204,12 +204,7 @@ pub extern "C" fn fenstubble_read(
     }
 }
 
-fn written(
-    head: &[u16],
-    t: &Tables<'_>,
-    buffer: &mut [u8],
-    size: &mut usize,
-) -> Result<(), Refusal>
+fn written(head: &[u16], t: &Tables<'_>, buffer: &mut [u8], size: &mut usize) -> Result<(), Refusal>
     ensures { written_as (number_of result) buffer.new size.new ≡ write_answer head.now (tables_of t.now) buffer.old size.old }
 {
     *size = book::write(head_in(head)?, t, buffer)?;

@@ -12,10 +12,12 @@ use plan::Request;
 use policy::open::{open, view};
 use policy::requests::change;
 use policy::serve::serve;
+use rows::Number;
 use rules::{BookTables, Refusal, Resource, Tables, TablesMut};
 use sets::{User, Users};
 
 // The number of a refusal, with 11 also the view; 0 where there is none.
+#[tactic(auto, unfolding(crate::specs::Answers::result_of))]
 fn code(done: Result<(), Refusal>) -> u16
     ensures { result ≡ code_of done }
 {
@@ -66,6 +68,22 @@ pub extern "C" fn fenstubble_join(
 }
 
 // The list is lent as the bytes of a set in a row; bytes past them are not looked at.
+fn inserted(
+    head: &mut [u16],
+    t: &mut TablesMut<'_>,
+    orders: &mut [u16],
+    count: &mut u16,
+    list: &[u8],
+) -> Result<(), Refusal>
+    ensures same { SameTables t.old t.new }
+    ensures answer { changed_as (code_of result) head.new (tables_mut t.new) orders.new count.new ≡ insert_answer list.now head.old (tables_mut t.old) orders.old count.old }
+{
+    if list.len() < Users::WIDTH {
+        return Err(Refusal::ShortTable);
+    }
+    changed(head, t, orders, count, Request::Insert(Users::get(list, 0)))
+}
+
 #[unsafe(no_mangle)]
 pub extern "C" fn fenstubble_insert(
     head: &mut [u16],
@@ -80,10 +98,6 @@ pub extern "C" fn fenstubble_insert(
 ) -> u16
     ensures { changed_as result head.new (tables inner_vertices.new inner_tokens.new outer_vertices.new outer_tokens.new resources.new) orders.new count.new ≡ insert_answer list.now head.old (tables inner_vertices.old inner_tokens.old outer_vertices.old outer_tokens.old resources.old) orders.old count.old }
 {
-    if list.len() < Users::WIDTH {
-        return Refusal::ShortTable.number();
-    }
-    let l = Users::read(list, 0);
     let mut t = BookTables {
         inner_vertices,
         inner_tokens,
@@ -91,7 +105,7 @@ pub extern "C" fn fenstubble_insert(
         outer_tokens,
         resources,
     };
-    code(changed(head, &mut t, orders, count, Request::Insert(l)))
+    code(inserted(head, &mut t, orders, count, list))
 }
 
 #[unsafe(no_mangle)]
@@ -116,7 +130,13 @@ pub extern "C" fn fenstubble_grant(
         outer_tokens,
         resources,
     };
-    code(changed(head, &mut t, orders, count, Request::Grant(Resource(r), User(u))))
+    code(changed(
+        head,
+        &mut t,
+        orders,
+        count,
+        Request::Grant(Resource(r), User(u)),
+    ))
 }
 
 #[unsafe(no_mangle)]
@@ -141,7 +161,13 @@ pub extern "C" fn fenstubble_revoke(
         outer_tokens,
         resources,
     };
-    code(changed(head, &mut t, orders, count, Request::Revoke(Resource(r), User(u))))
+    code(changed(
+        head,
+        &mut t,
+        orders,
+        count,
+        Request::Revoke(Resource(r), User(u)),
+    ))
 }
 
 #[unsafe(no_mangle)]
@@ -168,13 +194,7 @@ pub extern "C" fn fenstubble_leave(
     code(changed(head, &mut t, orders, count, Request::Leave(User(u))))
 }
 
-fn viewed(
-    head: &[u16],
-    t: &Tables<'_>,
-    u: User,
-    r: Resource,
-    cell: &mut u16,
-) -> Result<(), Refusal>
+fn viewed(head: &[u16], t: &Tables<'_>, u: User, r: Resource, cell: &mut u16) -> Result<(), Refusal>
     ensures { viewed_as (code_of result) cell.new ≡ view_answer u.0 r.0 head.now (tables_of t.now) cell.old }
 {
     *cell = view(head_in(head)?, t, u, r)?.number();
