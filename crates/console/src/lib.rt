@@ -2,9 +2,10 @@
 #![tactic(auto)]
 
 ghost use Rattle.std.specs.Prelude.{◌≡◌, length};
+ghost use Rattle.std.specs.Io.{ReadsAtMost};
 
 use std::io;
-use std::io::{Print, Stderr, Stdin, Stdout};
+use std::io::{Print, Read, Stderr, Stdin, Stdout};
 
 // The standard streams.
 #[derive(Clone, Copy)]
@@ -29,9 +30,21 @@ impl Console {
         written
     }
 
-    // Tells that a read failed.
+    // Tells that standard input can't be read.
     pub fn tell_unread(self) {
         self.tell(b"fenstubble: standard input can't be read\n");
+    }
+
+    // One read of standard input: how many bytes of the part it filled. Tells where that fails.
+    pub fn read(self, part: &mut [u8]) -> io::Result<usize>
+        ensures { ReadsAtMost result part.new }
+    {
+        let mut stdin = self.stdin;
+        let came = stdin.read(part);
+        if came.is_err() {
+            self.tell_unread();
+        }
+        came
     }
 }
 

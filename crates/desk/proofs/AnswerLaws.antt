@@ -26,8 +26,8 @@ use Rattle.lines.specs.Answer.{answer_text}
 use Rattle.lines.specs.Request.{line_asks}
 use Rattle.lines.specs.Program.{Told, no14, line_told, answer_to, answers, leaves}
 use Rattle.lines.proofs.ProgramLaws.{Kind, asks-kind}
-use Rattle.lines.specs.declared.request.Line.{Line}
-use Rattle.lines.specs.declared.request.Line.TheVariants.{Asks, Malformed}
+use Rattle.std.specs.Prelude.{Option, Some, None}
+use Rattle.lines.specs.declared.request.Asked.{Asked as Row}
 use Rattle.desk.specs.Block.{Enough, row_of, rows_of, row_told, rows_answers, rows_leave}
 use Rattle.desk.specs.Output.{told, texts}
 use Rattle.desk.proofs.BlockLaws.{most_asked, most_all, most-rows, asked-cons, Roomy, one-roomy, rest-room, kept, served, rows_long, block-served}
@@ -132,10 +132,10 @@ leave-rows (x ∷ y ∷ z ∷ xs) ys e b = leave-rows xs ys (omega arith) (row_t
 -- ---- the rows of lines
 
 module _ (b : Book) where
-  line_row : (q : Line) → Kind q → row_told (row_of q).kind (row_of q).a (row_of q).b b ≡ line_told q b
+  line_row : (q : Option Row) → Kind q → row_told (row_of q).kind (row_of q).a (row_of q).b b ≡ line_told q b
   unfolding row_told
-  line_row (Asks q) k = rw (ne_eqb q.kind 14 (λ e. omega arith))
-  line_row Malformed k = refl
+  line_row (Some q) k = rw (ne_eqb q.kind 14 (λ e. omega arith))
+  line_row None k = refl
 
 pub lines_rows : (ls : List (List ℕ)) (b : Book) → rows_answers (rows_of false ls) b ≡ answers ls b
 unfolding rows_answers rows_of answers

@@ -13,15 +13,12 @@ use Rattle.rules.specs.Bytes.{Tables, tables, head_of}
 use Rattle.rules.specs.Refusals.{short}
 use Rattle.rules.specs.Runs.{book_of}
 use Rattle.rules.specs.declared.Head.{Head}
-use Rattle.rules.specs.declared.Mode.{Mode}
 use Rattle.rules.specs.declared.Refusal.{Refusal}
 use Rattle.rules.specs.declared.Served.{Served}
 use Rattle.rules.specs.declared.Served.TheVariants.{Done, No}
 use Rattle.theorems.proofs.RunLaws.{fresh, fresh-sound}
 use Rattle.plan.specs.Judge.{Ready}
-use Rattle.lines.specs.declared.request.First.{First}
-use Rattle.lines.specs.declared.request.First.TheVariants.{Of}
-use Rattle.desk.specs.Input.{Within, pending, Whole, Moded}
+use Rattle.desk.specs.Input.{Within, pending, Whole}
 use Rattle.desk.specs.Block.{most_in, Enough, Serves}
 use Rattle.desk.specs.Turn.{Holds, Waits}
 use Rattle.desk.specs.declared.State.{State}
@@ -54,9 +51,6 @@ enough rows requests l q a o m =
     record { whole = omega arith; answered = omega arith; room = omega arith }
 
 -- ---- the start
-
-pub mode-named : {f : First} {m : Mode} → f ≡ Of m → Moded f → m.0 ≤ 1
-mode-named {f} e x = subst Moded e x
 
 module _ (iv it ov ot rs : List ℕ) (a : 2560 ≡ length iv) (b : 20480 ≡ length it) (c : 4096 ≡ length ov) (d : 16384 ≡ length ot) (e : 3072 ≡ length rs) where
   all-long : short (tables iv it ov ot rs) ≡ false

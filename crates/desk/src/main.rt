@@ -3,33 +3,36 @@
 #![tactic(auto)]
 
 mod block;
-mod console;
 mod hint;
 mod input;
 mod memory;
 mod output;
 
-ghost use Rattle.std.specs.Prelude.{not, [], ◌≡◌, ◌≤◌, length, take};
+ghost use Rattle.std.specs.Prelude.{[], ◌≡◌, ◌≤◌, IfOk, length};
 ghost use Rattle.rules.specs.Book.{empty_book};
-ghost use Rattle.rules.specs.Bytes.{tables, book_in, head_of};
+ghost use Rattle.rules.specs.Bytes.{tables, head_of};
 ghost use Rattle.plan.specs.Judge.{Ready};
 ghost use Rattle.lines.specs.Program.{lines_in};
-ghost use Rattle.desk.specs.Input.{pending, Unless};
-ghost use Rattle.desk.specs.Block.{Enough, Answers};
+ghost use Rattle.desk.specs.Input.{pending};
+ghost use Rattle.desk.specs.Block.{Enough};
 ghost use Rattle.desk.specs.Output.{longest};
-ghost use Rattle.desk.specs.Turn.{Starts, Holds, Waits, Lent, Printing, desk, Goes, Runs, Awaits};
+ghost use Rattle.desk.specs.Turn.{Starts, Holds, Waits, Lent, Sound, BlockAnswered, desk, Goes, Runs, Awaits};
 
 use block::{read_block, serve_block};
-use console::Console;
+use console::{Console, zeros};
 use hint::{hint_in, tell};
-use input::{Unread, read_first, read_more, take_mode};
-use lines::request::First;
-use output::{Printed, print_block, refuse_start, write_out};
+use input::{INPUT, Unread, read_first, read_more, take_mode};
+use memory::{
+    ANSWER_ROWS, INNER_TOKENS, INNER_VERTICES, ORDER_ROWS, OUTER_TOKENS, OUTER_VERTICES,
+    REQUEST_ROWS, RESOURCES,
+};
+use output::{OUTPUT, print_block};
 use policy::serve::REQUEST_WIDTH;
 use rules::{
     Head, InnerTokens, InnerVertices, Joined, Mode, OuterTokens, OuterVertices, Resources, Served,
 };
 use sets::Users;
+use std::io;
 
 // The head of the empty book.
 fn empty_head(mode: Mode) -> Head
@@ -47,77 +50,40 @@ fn empty_head(mode: Mode) -> Head
     }
 }
 
-// Between two turns: the book's head, the input not yet taken, how far the output buffer is filled, whether the program goes on, and whether a read or a
-// write failed.
+// Between two turns: the book's head, the input not yet taken, how far the output buffer is filled, and whether the program goes on. (A flag, since what is
+// proved of all turns speaks of the last state, `prints-program`: it has a book and input like any other.)
 #[derive(Clone, Copy)]
 struct State {
     head: Head,
     unread: Unread,
     filled: usize,
     going: bool,
-    failed: bool,
 }
 
 // Where no whole line is left: the answers go out before more input is waited for.
-fn wait(console: Console, s: State, input: &mut [u8], out: &mut [u8]) -> State
-    requires waits { Waits s input.old out.old }
+fn wait(console: Console, s: State, input: &mut [u8], out: &[u8]) -> io::Result<State>
+    requires waits { Waits s input.old out.now }
     requires input_value { lines_in (pending s.unread input.old) ≡ [] }
-    ensures waits_2 { Waits result input.new out.new }
-    ensures head_value { result.head ≡ s.head }
-    ensures unless { Unless result.failed (Awaits s input.old result input.new) }
+    ensures waits_2 { IfOk result (λ r. Waits r input.new out.now) }
+    ensures head_value { IfOk result (λ r. r.head ≡ s.head) }
+    ensures awaits { IfOk result (λ r. Awaits s input.old r input.new) }
 {
-    let filled = s.filled;
-    let head = s.head;
-    let unread = s.unread;
-    if !write_out(console, &out[..filled]) {
-        return State {
-            head,
-            unread,
+    console.write_out(&out[..s.filled])?;
+    if s.unread.ended {
+        return Ok(State {
+            head: s.head,
+            unread: s.unread,
             filled: 0,
             going: false,
-            failed: true,
-        };
+        });
     }
-    if unread.ended {
-        return State {
-            head,
-            unread,
-            filled: 0,
-            going: false,
-            failed: false,
-        };
-    }
-    let unread = read_more(console, input, unread);
-    let failed = unread.failed;
-    State {
-        head,
+    let unread = read_more(console, input, s.unread)?;
+    Ok(State {
+        head: s.head,
         unread,
         filled: 0,
-        going: !failed,
-        failed,
-    }
-}
-
-// After a block's answers: the program ends where they could not be written.
-fn printed(head: Head, unread: Unread, p: Printed) -> State
-    ensures { Printing result head unread p }
-{
-    match p {
-        Printed::To(filled) => State {
-            head,
-            unread,
-            filled,
-            going: true,
-            failed: false,
-        },
-        Printed::Failed => State {
-            head,
-            unread,
-            filled: 0,
-            going: false,
-            failed: true,
-        },
-    }
+        going: true,
+    })
 }
 
 // The requests of a block are served, and their answers printed.
@@ -133,26 +99,26 @@ fn answer_block(
     answers: &mut [u16],
     orders: &mut [u16],
     out: &mut [u8],
-) -> State
+) -> io::Result<State>
     requires ready { Ready s.head (tables iv.old it.old ov.old ot.old rs.old) }
     requires enough { Enough requests.now answers.old orders.old }
     requires filled_in_bounds { s.filled ≤ length out.old }
     requires longest_in_bounds { longest ≤ length out.old }
-    ensures ready_2 { Ready result.head (tables iv.new it.new ov.new ot.new rs.new) }
-    ensures unread_value { result.unread ≡ s.unread }
-    ensures filled_in_bounds_2 { result.filled ≤ length out.new }
-    ensures going_value { result.going ≡ not result.failed }
-    ensures unless { Unless result.failed (Answers requests.now (book_in s.head (tables iv.old it.old ov.old ot.old rs.old)) (take s.filled out.old) (book_in result.head (tables iv.new it.new ov.new ot.new rs.new)) (take result.filled out.new)) }
+    ensures sound { Sound (tables iv.new it.new ov.new ot.new rs.new) }
+    ensures block_answered { IfOk result (λ r. BlockAnswered s (tables iv.old it.old ov.old ot.old rs.old) requests.now out.old r (tables iv.new it.new ov.new ot.new rs.new) out.new) }
 {
-    let head = s.head;
-    let unread = s.unread;
     let end = requests.len();
-    let served = serve_block(head, iv, it, ov, ot, rs, requests, answers, orders);
-    let Served::Done(after, _) = served else {
-        return s;
+    let served = serve_block(s.head, iv, it, ov, ot, rs, requests, answers, orders);
+    let Served::Done(head, _) = served else {
+        return Ok(s);
     };
-    let p = print_block(console, requests, &answers[..end], orders, out, s.filled);
-    printed(after, unread, p)
+    let filled = print_block(console, requests, &answers[..end], orders, out, s.filled)?;
+    Ok(State {
+        head,
+        unread: s.unread,
+        filled,
+        going: true,
+    })
 }
 
 // The whole lines at hand, as many as one call serves.
@@ -169,21 +135,19 @@ fn turn(
     orders: &mut [u16],
     input: &mut [u8],
     out: &mut [u8],
-) -> State
+) -> io::Result<State>
     requires holds { Holds s (tables iv.old it.old ov.old ot.old rs.old) input.old out.old }
     requires lent { Lent requests.old answers.old orders.old out.old }
-    ensures holds_2 { Holds result (tables iv.new it.new ov.new ot.new rs.new) input.new out.new }
-    ensures unless { Unless result.failed (Goes (desk s (tables iv.old it.old ov.old ot.old rs.old) input.old out.old) (desk result (tables iv.new it.new ov.new ot.new rs.new) input.new out.new) result.going) }
+    ensures sound { Sound (tables iv.new it.new ov.new ot.new rs.new) }
+    ensures holds_2 { IfOk result (λ r. Holds r (tables iv.new it.new ov.new ot.new rs.new) input.new out.new) }
+    ensures goes { IfOk result (λ r. Goes (desk s (tables iv.old it.old ov.old ot.old rs.old) input.old out.old) (desk r (tables iv.new it.new ov.new ot.new rs.new) input.new out.new) r.going) }
 {
     let b = read_block(input, s.unread, requests);
-    let unread = b.unread;
-    let head = s.head;
     let s = State {
-        head,
-        unread,
+        head: s.head,
+        unread: b.unread,
         filled: s.filled,
         going: true,
-        failed: false,
     };
     let n = b.rows * REQUEST_WIDTH;
     if n == 0 {
@@ -204,7 +168,7 @@ fn turn(
     )
 }
 
-// The turns are counted down from a number that no run uses up: nothing says that the input ends.
+// Turn after turn to the last state. (They are counted, from a number that no run uses up: nothing says that the input ends.)
 fn answer_all(
     console: Console,
     s: State,
@@ -214,17 +178,19 @@ fn answer_all(
     ot: &mut [u8],
     rs: &mut [u8],
     input: &mut [u8],
-) -> State
+) -> io::Result<State>
     requires { Starts s (tables iv.old it.old ov.old ot.old rs.old) input.old }
-    ensures { Unless result.failed (Runs (desk s (tables iv.old it.old ov.old ot.old rs.old) input.old []) result (tables iv.new it.new ov.new ot.new rs.new) input.new) }
+    ensures { IfOk result (λ r. Runs (desk s (tables iv.old it.old ov.old ot.old rs.old) input.old []) r (tables iv.new it.new ov.new ot.new rs.new) input.new) }
 {
-    let mut requests = memory::request_rows();
-    let mut answers = memory::answer_rows();
-    let mut orders = memory::order_rows();
-    let mut out = memory::output_bytes();
+    let mut requests: [u64; REQUEST_ROWS] = zeros(0);
+    let mut answers: [u16; ANSWER_ROWS] = zeros(0);
+    let mut orders: [u16; ORDER_ROWS] = zeros(0);
+    let mut out: [u8; OUTPUT] = zeros(0);
     let mut state = s;
-    let mut turns = u64::MAX;
-    while turns > 0 && state.going {
+    for _ in 0..u64::MAX {
+        if !state.going {
+            break;
+        }
         state = turn(
             console,
             state,
@@ -238,10 +204,9 @@ fn answer_all(
             &mut orders,
             input,
             &mut out,
-        );
-        turns -= 1;
+        )?;
     }
-    state
+    Ok(state)
 }
 
 fn main(rt: HostRuntime) {
@@ -250,32 +215,27 @@ fn main(rt: HostRuntime) {
         stdout: rt.stdout(),
         stderr: rt.stderr(),
     };
-    let mut input = memory::input_bytes();
-    let whole = read_first(console, &mut input);
-    if whole.failed {
+    let mut input: [u8; INPUT] = zeros(0);
+    let Ok(whole) = read_first(console, &mut input) else {
         return;
-    }
-    let t = take_mode(&input, whole);
-    let first = t.first;
-    let unread = t.unread;
-    let First::Of(mode) = first else {
-        refuse_start(console);
+    };
+    let Some(taken) = take_mode(&input, whole) else {
+        let _ = console.write_out(b"no 14\n");
         tell(console, hint_in(&input, whole));
         return;
     };
-    let mut iv = memory::inner_vertices();
-    let mut it = memory::inner_tokens();
-    let mut ov = memory::outer_vertices();
-    let mut ot = memory::outer_tokens();
-    let mut rs = memory::resources();
+    let mut iv: [u8; INNER_VERTICES] = zeros(0);
+    let mut it: [u8; INNER_TOKENS] = zeros(0);
+    let mut ov: [u8; OUTER_VERTICES] = zeros(0);
+    let mut ot: [u8; OUTER_TOKENS] = zeros(0);
+    let mut rs: [u8; RESOURCES] = zeros(0);
     let s = State {
-        head: empty_head(mode),
-        unread,
+        head: empty_head(taken.mode),
+        unread: taken.unread,
         filled: 0,
         going: true,
-        failed: false,
     };
-    answer_all(
+    let _ = answer_all(
         console, s, &mut iv, &mut it, &mut ov, &mut ot, &mut rs, &mut input,
     );
 }
