@@ -10,11 +10,9 @@ use Rattle.std.specs.Prelude.{Option, Some, None}
 use Rattle.rules.specs.Lists.{every}
 use Rattle.lines.specs.Request.{is_number, value, pieces, exactly, row_of, asks_for, request_of, line_asks, kind_of}
 use Rattle.lines.specs.declared.request.Asked.{Asked}
-use Rattle.lines.specs.Reading.{kind_number}
-use Rattle.lines.specs.declared.request.Kind.{Kind}
-use Rattle.lines.specs.declared.request.Kind.TheVariants.{Join, Insert, Grant, Revoke, Open, Leave}
-use Rattle.lines.specs.contracts.request.Kind.{the_type}
-use denote.Enum.Declared.{tag_of}
+use Rattle.rules.specs.Kinds.{request_number}
+use Rattle.rules.specs.declared.RequestKind.{RequestKind}
+use Rattle.rules.specs.declared.RequestKind.TheVariants.{Grant, Revoke, Open}
 use Rattle.lines.proofs.Pieces.{numbers_of}
 
 module _ (k : ℕ) (ps : List (List ℕ)) where
@@ -51,17 +49,8 @@ pub line-asks : (bs w : List ℕ) (ps : List (List ℕ)) → length bs ≤ 512 �
 unfolding line_asks request_of
 line-asks bs w ps h e = rw (le-leb (length bs) 512 h, e)
 
--- a kind as the number that the row has
-pub tag-is : (k : Kind) → tag_of the_type k ≡ kind_number k
-tag-is Join = refl
-tag-is Insert = refl
-tag-is Grant = refl
-tag-is Revoke = refl
-tag-is Open = refl
-tag-is Leave = refl
-
 -- a request of two numbers
-pub row-pair : (k : Kind) (ns : List ℕ) → (k ≡ Grant) ⊎ ((k ≡ Revoke) ⊎ (k ≡ Open)) → exactly 2 (kind_number k) ns ≡ row_of (kind_number k) ns
+pub row-pair : (k : RequestKind) (ns : List ℕ) → (k ≡ Grant) ⊎ ((k ≡ Revoke) ⊎ (k ≡ Open)) → exactly 2 (request_number k) ns ≡ row_of (request_number k) ns
 unfolding row_of
 row-pair k ns (inl e) = rw e
 row-pair k ns (inr (inl e)) = rw e

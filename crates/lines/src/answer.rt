@@ -2,7 +2,7 @@
 ghost use Rattle.std.specs.Prelude.{◌≡◌, ◌+◌, ◌*◌, ◌/◌, ◌≤◌, length};
 ghost use Rattle.lines.specs.Answer.{digits, numeral, of_open, row_text, rows_text, ok_text, no_text, Puts, writing, put_answer};
 
-use rules::Order;
+use rules::{Order, OrderKind};
 
 // A text as it stands.
 pub fn put_text(text: &[u8], out: &mut [u8], at: usize) -> usize
@@ -40,10 +40,11 @@ pub fn put_numeral(n: u64, last: u8, out: &mut [u8], at: usize) -> usize
 }
 
 // Whether an order row is one that open gives.
+#[tactic(auto, using(std::proofs::lemmas::Bool::Decides::nat_tests), unfolding(crate::specs::Answer::of_open))]
 fn of_open(kind: u16) -> bool
     ensures { result ≡ of_open kind }
 {
-    matches!(kind, 105 | 111)
+    kind == OrderKind::InnerRow.number() || kind == OrderKind::OuterRow.number()
 }
 
 #[tactic(auto, using(crate::proofs::Texts::six))]

@@ -1,9 +1,10 @@
 // A line of the request program, without its newline.
 ghost use Rattle.std.specs.Prelude.{◌≡◌};
 ghost use Rattle.lines.specs.Request.{shaped, number_in, kind_of, twice, users, above, insert_of, exactly, row_of, line_asks, first_line};
-ghost use Rattle.lines.specs.Reading.{kind_number, kind_told};
+ghost use Rattle.rules.specs.Kinds.{request_number};
+ghost use Rattle.lines.specs.Reading.{kind_told};
 
-use rules::Mode;
+use rules::{Mode, RequestKind};
 use sets::{User, Users};
 
 // A set can name the users below it.
@@ -15,17 +16,6 @@ pub struct Asked {
     pub kind: u64,
     pub a: u64,
     pub b: u64,
-}
-
-// The requests, by their numbers in such a row.
-#[derive(Clone, Copy)]
-enum Kind {
-    Join = 0,
-    Insert = 1,
-    Grant = 2,
-    Revoke = 3,
-    Open = 4,
-    Leave = 5,
 }
 
 // One to five bytes that start with 0 only if there is no other: a NUMBER of RULES 10.4, if they are digits.
@@ -81,7 +71,7 @@ fn users_of(numbers: &[u64]) -> u64
             users = users.with(User(*n as u16));
         }
     }
-    users.word()
+    u64::from(users)
 }
 
 // 1 if a number is above 63.
@@ -93,21 +83,21 @@ fn above_of(numbers: &[u64]) -> u64
 
 // Which request a word is.
 #[tactic(auto, using(crate::proofs::Passed::same_is), unfolding(crate::specs::Request::kind_of, crate::specs::Request::words, rules::specs::Lists::first))]
-fn kind_of(word: &[u8]) -> Option<Kind>
+fn kind_of(word: &[u8]) -> Option<RequestKind>
     ensures { kind_told result ≡ kind_of word.now }
 {
     if word == b"join".as_slice() {
-        Some(Kind::Join)
+        Some(RequestKind::Join)
     } else if word == b"insert".as_slice() {
-        Some(Kind::Insert)
+        Some(RequestKind::Insert)
     } else if word == b"grant".as_slice() {
-        Some(Kind::Grant)
+        Some(RequestKind::Grant)
     } else if word == b"revoke".as_slice() {
-        Some(Kind::Revoke)
+        Some(RequestKind::Revoke)
     } else if word == b"open".as_slice() {
-        Some(Kind::Open)
+        Some(RequestKind::Open)
     } else if word == b"leave".as_slice() {
-        Some(Kind::Leave)
+        Some(RequestKind::Leave)
     } else {
         None
     }
@@ -121,15 +111,15 @@ fn insert_of(numbers: &[u64]) -> Option<Asked>
         return None;
     }
     Some(Asked {
-        kind: Kind::Insert as u64,
+        kind: RequestKind::Insert.number(),
         a: users_of(numbers),
         b: above_of(numbers),
     })
 }
 
 // A request of exactly n numbers, two at most; what it has no number for is 0.
-fn exactly(n: usize, kind: Kind, numbers: &[u64]) -> Option<Asked>
-    ensures { result ≡ exactly n (kind_number kind) numbers.now }
+fn exactly(n: usize, kind: RequestKind, numbers: &[u64]) -> Option<Asked>
+    ensures { result ≡ exactly n (request_number kind) numbers.now }
 {
     if numbers.len() != n {
         return None;
@@ -140,21 +130,21 @@ fn exactly(n: usize, kind: Kind, numbers: &[u64]) -> Option<Asked>
         [a, b, ..] => (*a, *b),
     };
     Some(Asked {
-        kind: kind as u64,
+        kind: kind.number(),
         a,
         b,
     })
 }
 
 // The request of a word and its numbers.
-fn row_of(kind: Kind, numbers: &[u64]) -> Option<Asked>
-    ensures { result ≡ row_of (kind_number kind) numbers.now }
+fn row_of(kind: RequestKind, numbers: &[u64]) -> Option<Asked>
+    ensures { result ≡ row_of (request_number kind) numbers.now }
 {
     match kind {
-        Kind::Join => exactly(0, kind, numbers),
-        Kind::Insert => insert_of(numbers),
-        Kind::Grant | Kind::Revoke | Kind::Open => exactly(2, kind, numbers),
-        Kind::Leave => exactly(1, kind, numbers),
+        RequestKind::Join => exactly(0, kind, numbers),
+        RequestKind::Insert => insert_of(numbers),
+        RequestKind::Grant | RequestKind::Revoke | RequestKind::Open => exactly(2, kind, numbers),
+        RequestKind::Leave => exactly(1, kind, numbers),
     }
 }
 
@@ -182,9 +172,9 @@ pub fn read_mode(line: &[u8]) -> Option<Mode>
     ensures { result ≡ first_line line.now }
 {
     if line == b"full".as_slice() {
-        Some(Mode(0))
+        Some(Mode::FULL)
     } else if line == b"delta".as_slice() {
-        Some(Mode(1))
+        Some(Mode::DELTA)
     } else {
         None
     }

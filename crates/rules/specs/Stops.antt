@@ -1,6 +1,6 @@
 -- A host that stops in the middle of a request's orders: who opens what from what it has then. RULES 6.6.
 -- Assumes nothing.
-use Rattle.std.specs.Prelude.{ℕ, ◌-◌, ◌*◌, ◌≤◌, ◌<◌, ◌≡◌, Bool, true, false, cond, ◌⊎◌, List, [], ◌∷◌, eqb, ltb, length, get_or, take, drop}
+use Rattle.std.specs.Prelude.{ℕ, ◌-◌, ◌*◌, ◌≤◌, ◌<◌, ◌≡◌, Bool, true, false, cond, ◌⊎◌, List, [], ◌∷◌, eqb, ltb, length, get_or, take, drop, Result, Ok, Err}
 use Rattle.sets.specs.Sets.{has}
 use Rattle.rules.specs.Book.{Book, resource}
 use Rattle.rules.specs.Refusals.{Request, joins, inserts, grants, revokes, leaves, work}
@@ -9,9 +9,9 @@ use Rattle.rules.specs.Calls.{change, orders_in, Asked, one}
 use Rattle.rules.specs.Runs.{Kept}
 use Rattle.rules.specs.Host.{Store, HostOpens, obey, obey_one, is_join}
 use Rattle.rules.specs.declared.Head.{Head}
+use Rattle.rules.specs.declared.Applied.{Applied}
+use Rattle.rules.specs.declared.Refusal.{Refusal}
 use Rattle.rules.specs.declared.Order.{Order}
-use Rattle.rules.specs.declared.Changed.{Changed}
-use Rattle.rules.specs.declared.Changed.TheVariants as changed
 
 -- the list of r before a request that leads from b to c: "a new folder's list before is the one that it comes with"
 unfoldable pub old_list : Book → Book → ℕ → ℕ
@@ -40,9 +40,9 @@ alters (leaves u) b r = has (resource b r).list u
 
 -- ---- the orders as a call gave them: its rows in the list lent, none where it refused
 
-unfoldable pub orders_given : Changed → List ℕ → List Order
-orders_given (changed.Done h n) list = orders_in n list
-orders_given (changed.No r) list = []
+unfoldable pub orders_given : (Result Applied Refusal) → List ℕ → List Order
+orders_given (Ok a) list = orders_in a.count list
+orders_given (Err r) list = []
 
 unfoldable pub orders_of : Request → List ℕ → Kept → List Order
 orders_of q list k =

@@ -1,5 +1,6 @@
 -- A host that obeys the rows which its calls gave, refused calls and opens among them, ends in step with the book that it keeps.
 -- Assumes nothing.
+use Rattle.std.specs.Prelude.{Result, Ok, Err}
 use Prim.Native.Nat.{ℕ, ◌+◌, ◌*◌}
 use mathlib.Core.Path.{◌≡◌, refl, sym, ap, ap₂, ◌∙◌}
 use mathlib.Core.Bool.{true, false, false≢true}
@@ -21,14 +22,13 @@ use Rattle.rules.specs.Runs.{Kept, keep, book_of, Call, to-change, to-view, to-o
 use Rattle.rules.specs.Host.{Store, obey, is_join, store_of, obey_change, obey_one, obey_all, obey_served, obey_call, obey_run, not_read}
 use Rattle.rules.specs.declared.Head.{Head}
 use Rattle.rules.specs.declared.Order.{Order}
-use Rattle.rules.specs.declared.Changed.{Changed}
-use Rattle.rules.specs.declared.Changed.TheVariants as changed
 use Rattle.rules.specs.declared.Refusal.{Refusal}
 use Rattle.rules.specs.declared.Refusal.TheVariants.{NoSuch}
 use Rattle.theorems.proofs.RequestLaws.{accepted, work-sound}
 use Rattle.theorems.proofs.ByteLaws.{sound-book-laid}
 use Rattle.theorems.proofs.CallLaws.{kept_one, kept_all, one-open}
 use Rattle.theorems.proofs.ServeLaws.{own_orders, one-gives, length-orders}
+use Rattle.rules.specs.declared.Applied.{Applied}
 use Rattle.theorems.proofs.HostLaws.{obeyed-work}
 
 -- orders that were given as rows of numbers are read back, whatever comes behind them
@@ -109,9 +109,9 @@ pub one-counted : (q : Asked) (h : Head) (t : Tables) (list : List ℕ) → Coun
 unfolding one change_one open_one
 one-counted (changes q) h t list = go (change q h t list).answer
   where
-    go : (a : Changed) → Counted (change_one a h (change q h t list).tables (change q h t list).orders)
-    go (changed.Done k n) = (0, 0, refl)
-    go (changed.No r) = refused-counted r h (change q h t list).tables (change q h t list).orders
+    go : (a : (Result Applied Refusal)) → Counted (change_one a h (change q h t list).tables (change q h t list).orders)
+    go (Ok a) = (0, 0, refl)
+    go (Err r) = refused-counted r h (change q h t list).tables (change q h t list).orders
 one-counted (opens u r) h t list = go (refusal_open t (book_in h t) (rows_lent list) u r)
   where
     go : (z : Option Refusal) → Counted (open_one z (book_in h t) u r h t list)

@@ -2,6 +2,7 @@
 -- nothing, by the book and by what a host has: no request lets them in again.
 -- RULES 5.12, 12.3.
 -- Assumes nothing.
+use Rattle.std.specs.Prelude.{Result, Ok, Err}
 use Prim.Native.Nat.{ℕ, ◌*◌, ◌<◌}
 use mathlib.Core.Path.{◌≡◌, refl, sym, ap, ◌∙◌, subst}
 use mathlib.Core.Bool.{Bool, true, false, ◌&&◌, not, true≢false, false≢true}
@@ -26,16 +27,15 @@ use Rattle.rules.specs.Calls.{change, Asked, changes, opens, nothing, asked_in, 
 use Rattle.rules.specs.Runs.{Kept, book_of, Call, to-change, to-view, to-open, to-serve, to_read, to_write, to-show, after, run, Access, access, listed, Event, did, loads, told, did_change, did_one, did_all, did_serve, events, history}
 use Rattle.rules.specs.Host.{HostOpens, store_of, obey_run, not_read}
 use Rattle.rules.specs.declared.Head.{Head}
-use Rattle.rules.specs.declared.Changed.{Changed}
-use Rattle.rules.specs.declared.Changed.TheVariants as changed
-use Rattle.rules.specs.declared.Served.{Served}
-use Rattle.rules.specs.declared.Served.TheVariants as served
 use Rattle.theorems.proofs.ListLaws.{every-mem, get_or-mem}
 use Rattle.theorems.proofs.SoundLaws.{sound-present}
 use Rattle.theorems.proofs.OpensLaws.{opens-list}
 use Rattle.theorems.proofs.AccessLaws.{list_at, list_count, resources-of, leave-list, work-access}
 use Rattle.theorems.proofs.RequestLaws.{accepted-sound, work-sound}
 use Rattle.theorems.proofs.RunLaws.{run_sound, run-access}
+use Rattle.rules.specs.declared.Applied.{Applied}
+use Rattle.rules.specs.declared.Refusal.{Refusal}
+use Rattle.rules.specs.declared.Served.{Served}
 use Rattle.theorems.proofs.HostOpensLaws.{run-keys, run-host-opens}
 
 -- ---- in a sound book
@@ -98,10 +98,10 @@ Plain es = (e : Event) → Memᴰ e es → (q : Request) × (e ≡ did q)
 none-plain : Plain []
 none-plain e m = absurd (Memᴰ.not-nil m)
 
-did-plain : (c : Changed) (q : Request) → Plain (did_change c q)
+did-plain : (c : (Result Applied Refusal)) (q : Request) → Plain (did_change c q)
 unfolding did_change
-did-plain (changed.Done h n) q e m = (q, Memᴰ.eq_of_singleton m)
-did-plain (changed.No r) q e m = none-plain e m
+did-plain (Ok a) q e m = (q, Memᴰ.eq_of_singleton m)
+did-plain (Err r) q e m = none-plain e m
 
 both-plain : (es fs : List Event) → Plain es → Plain fs → Plain (es ++ fs)
 both-plain es fs p q e m = go (Memᴰ.append_cases es m)
@@ -124,10 +124,10 @@ all_plain (q ∷ qs) h t list =
     let rest = drop (o.count * 3) o.orders in
     both-plain (did_one q h t list) (did_all qs o.head o.tables rest) (one_plain q h t list) (all_plain qs o.head o.tables rest)
 
-serve-plain : (c : Served) (es : List Event) → Plain es → Plain (did_serve c es)
+serve-plain : (c : (Result Served Refusal)) (es : List Event) → Plain es → Plain (did_serve c es)
 unfolding did_serve
-serve-plain (served.Done h n) es k = k
-serve-plain (served.No r) es k = none-plain
+serve-plain (Ok a) es k = k
+serve-plain (Err r) es k = none-plain
 
 call-plain : (c : Call) (s : Kept) → not_read c ≡ true → Plain (events c s)
 unfolding events not_read

@@ -9,4 +9,4 @@ returns-then-repeats c = rw (sym c.repeats.ensures ∙ c.if-repeats.true)
 
 pub returns : goal.returns
 unfolding insert_of
-returns c = rw (sym c.repeats.ensures ∙ c.if-repeats.false, c.users_of.ensures, c.above_of.ensures)
+returns c = rw (sym c.repeats.ensures ∙ c.if-repeats.false, c.number.ensures, c.users_of.ensures, c.above_of.ensures)

@@ -22,4 +22,4 @@ unfolding users
 returns c =
     let l = c.loop-n in
     let n : length c.args.numbers.now ≤ l.n-index = omega arith in
-    c.word.ensures ∙ sym (l.invariant ∙ rw (drop_of_length-le c.args.numbers.now n) (or_zero_r (set_in l.users)))
+    c.from.ensures ∙ sym (l.invariant ∙ rw (drop_of_length-le c.args.numbers.now n) (or_zero_r (set_in l.users)))
