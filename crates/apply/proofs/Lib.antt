@@ -1,8 +1,8 @@
 pub mod WorksLaws
 pub mod ApplyLaws
 pub mod RevokeLaws
-pub mod GrantWorks
-pub mod GrantLaws
-pub mod GrantSteps
 pub mod InsertLaws
 pub mod LeaveLaws
+pub mod GrantLaws
+pub mod GrantWorks
+pub mod GrantSteps

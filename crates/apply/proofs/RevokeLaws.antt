@@ -1,7 +1,7 @@
 -- A user taken off a list, as a revoke and a leave have it: the room for it, and that it is the revoke of the rules.
 -- Assumes nothing.
 use Prim.Native.Nat.{ℕ, ◌+◌, ◌*◌, ◌≤◌, ◌<◌}
-use mathlib.Core.Path.{◌≡◌, refl, sym, ap, ap₂, ◌∙◌, subst}
+use mathlib.Core.Path.{◌≡◌, sym, ap, ap₂, ◌∙◌, subst}
 use mathlib.Core.Bool.{Bool, true, false}
 use mathlib.Core.List.{List, []}
 use native.Mathlib.Omega.{arith}
@@ -13,7 +13,7 @@ use Rattle.rules.specs.Book.{Book, Resource, resource, with_list, with_resources
 use Rattle.rules.specs.Sound.{locked, max_tokens}
 use Rattle.rules.specs.Requests.{Done, done, ◌then◌, vertex_orders, revoke}
 use Rattle.rules.specs.Refusals.{revokes, work}
-use Rattle.rules.specs.Bytes.{Tables, tables, book_in, resources_in}
+use Rattle.rules.specs.Bytes.{Tables, book_in, resources_in}
 use Rattle.rules.specs.Calls.{change}
 use Rattle.rules.specs.declared.Head.{Head}
 use Rattle.theorems.specs.Plan.{lock_with, revoked_list}
@@ -24,51 +24,47 @@ use Rattle.theorems.proofs.CountLaws.{vertex_orders-count}
 use Rattle.theorems.proofs.PlanLaws.{lock-orders, revoke-plan, revoke-outer, revoke-orders}
 use Rattle.layer.specs.Laid.{outer_shape, layer_of, max_vertices}
 use Rattle.plan.specs.Waiting.{row}
-use Rattle.plan.proofs.ReadyLaws.{resources-count, users-count, row_read}
 use Rattle.write.specs.Write.{Resources, listed}
-use Rattle.apply.specs.Apply.{Works, strike_by, LockRoom, StrikeRoom, Accepted, applied}
+use Rattle.apply.specs.Apply.{Works, strike_by, LockRoom, StrikeRoom, applied}
 use Rattle.apply.specs.declared.step.Step.{Step}
-use Rattle.apply.proofs.WorksLaws.{step, works-none, works-next, works-list, works-change, outer-in}
-use Rattle.apply.proofs.ApplyLaws.{Known, known, lock-allowed}
+use Rattle.apply.proofs.WorksLaws.{step, with_rows, works-none, works-next, works-list, works-change, outer-in, resources-in, users-in, row-in}
+use Rattle.apply.proofs.ApplyLaws.{Known, lock-allowed}
 
 -- ---- the step, as the code has it: x is the row of r, s its list without u
 
-module _ (h : Head) (ov ot rs list : List ℕ) (r u at : ℕ) {x : Resource} (read : x ≡ row (resources_in h.resources.0 rs) r) where
-  pub strike-out : {z : Bool} (iv it : List ℕ) → z ≡ has x.list u → z ≡ false
-      → let t = tables iv it ov ot rs in Works (strike_by r u (book_in h t)) h t list at (step h at) t list
+module _ {h : Head} {t : Tables} {list : List ℕ} {r u at : ℕ} (room : StrikeRoom h t list r u at) {x : Resource} (read : x ≡ resource (book_in h t) r) where
+  pub strike-out : {z : Bool} → z ≡ has x.list u → z ≡ false → Works (strike_by r u (book_in h t)) h t list at (step h at) t list
   unfolding strike_by
-  strike-out iv it q f = rw (ap (λ (y : Resource). has y.list u) (sym (row_read h iv it ov ot rs r read)) ∙ sym q ∙ f) works-none
+  strike-out q f = rw (ap (λ (y : Resource). has y.list u) (sym read) ∙ sym q ∙ f) works-none
 
-  module _ {s : ℕ} {rs' : List ℕ} (on : has x.list u ≡ true) (room : StrikeRoom h ov ot rs list r u at) (new : s ≡ minus x.list (single u))
-      (put : Resources h.resources.0 (listed r s (resources_in h.resources.0 rs)) rs rs') where
-    pub strike-lock : LockRoom h ov ot rs' list r s at
+  module _ {s : ℕ} {rs : List ℕ} (on : has x.list u ≡ true) (new : s ≡ minus x.list (single u))
+      (put : Resources h.resources.0 (listed r s (resources_in h.resources.0 t.resources)) t.resources rs) where
+    pub strike-lock : LockRoom h (with_rows t rs) list r s at
     strike-lock =
-        let k = room.lock (ap (λ (y : Resource). has y.list u) (sym read) ∙ on) in
-        subst (λ (z : ℕ). LockRoom h ov ot rs' list r z at) (sym (new ∙ ap (λ (y : Resource). minus y.list (single u)) read))
+        let x-is : x ≡ row (resources_in h.resources.0 t.resources) r = read ∙ sym (row-in h t r) in
+        let k = room.lock (ap (λ (y : Resource). has y.list u) (sym x-is) ∙ on) in
+        subst (λ (z : ℕ). LockRoom h (with_rows t rs) list r z at) (sym (new ∙ ap (λ (y : Resource). minus y.list (single u)) x-is))
         (record { fits = k.fits; rows = omega (arith, k.rows, put.same); there = k.there; orders = k.orders; tokens< = k.tokens< })
 
-    pub strike-in : {a : Step} {ov' ot' rs'' l' : List ℕ} (iv it : List ℕ) → let t = tables iv it ov ot rs in
-        Works (lock_with r s (book_in h (tables iv it ov ot rs'))) h (tables iv it ov ot rs') list at a (tables iv it ov' ot' rs'') l'
-        → Works (strike_by r u (book_in h t)) h t list at a (tables iv it ov' ot' rs'') l'
+    pub strike-in : {a : Step} {w : Tables} {l' : List ℕ} → Works (lock_with r s (book_in h (with_rows t rs))) h (with_rows t rs) list at a w l'
+        → Works (strike_by r u (book_in h t)) h t list at a w l'
     unfolding strike_by
-    strike-in {a} iv it w =
-        let x-is = row_read h iv it ov ot rs r read in
-        let c = book_in h (tables iv it ov ot rs') in
-        let set : s ≡ revoked_list r u (book_in h (tables iv it ov ot rs)) = new ∙ ap (λ (y : Resource). minus y.list (single u)) x-is in
+    strike-in {a} w =
+        let c = book_in h (with_rows t rs) in
+        let set : s ≡ revoked_list r u (book_in h t) = new ∙ ap (λ (y : Resource). minus y.list (single u)) read in
         let full : a.at * 3 ≤ length list =
-        omega (arith, w.next, lock-orders r s c, strike-lock.orders, ap (λ (L : Layer). length (vertex_orders 1 2 L s)) (outer-in h (tables iv it ov ot rs'))) in
-        rw (ap (λ (y : Resource). has y.list u) (sym x-is) ∙ on, ← set)
-        (works-next (lock_with r s) full (works-list h iv it ov ot rs rs' list at r s put) w)
+        omega (arith, w.next, lock-orders r s c, strike-lock.orders, ap (λ (L : Layer). length (vertex_orders 1 2 L s)) (outer-in h (with_rows t rs))) in
+        rw (ap (λ (y : Resource). has y.list u) (sym read) ∙ on, ← set)
+        (works-next (lock_with r s) full (works-list h t list at r s put) w)
 
 -- ---- in a book where S8 holds of r
 
-module _ (h : Head) (iv it ov ot rs list : List ℕ) (r u at : ℕ) (locks : locked (book_in h (tables iv it ov ot rs)) (resource (book_in h (tables iv it ov ot rs)) r) ≡ true)
-    (there : r < h.resources.0) where
+module _ (h : Head) (t : Tables) (list : List ℕ) (r u at : ℕ) (locks : locked (book_in h t) (resource (book_in h t) r) ≡ true) (there : r < h.resources.0) where
   abbrev c : Book
-  c = book_in h (tables iv it ov ot rs)
+  c = book_in h t
 
   there-in : r < length c.resources
-  there-in = omega (arith, resources-count h iv it ov ot rs)
+  there-in = omega (arith, resources-in h t)
 
   -- it is the revoke of the rules
   pub strike-is : has (resource c r).list u ≡ true → strike_by r u c ≡ revoke r u c
@@ -80,10 +76,11 @@ module _ (h : Head) (iv it ov ot rs list : List ℕ) (r u at : ℕ) (locks : loc
   strike-not off = rw off
 
   -- where what the revoke leaves is within the limits, there is room
-  pub strike-allowed : max_vertices * bytes ≤ length ov → max_tokens * 4 ≤ length ot → h.resources.0 * (bytes + 4) ≤ length rs → u < people
+  pub strike-allowed : max_vertices * bytes ≤ length t.outer_vertices → max_tokens * 4 ≤ length t.outer_tokens → h.resources.0 * (bytes + 4) ≤ length t.resources
+      → u < people
       → (has (resource c r).list u ≡ true → (length (revoke r u c).book.outer.sets ≤ max_vertices) × (length (revoke r u c).book.outer.tokens ≤ max_tokens)
       × ((at + length (revoke r u c).orders) * 3 ≤ length list))
-      → StrikeRoom h ov ot rs list r u at
+      → StrikeRoom h t list r u at
   strike-allowed lv lt rows user fits =
       record {
         rows = rows;
@@ -91,17 +88,16 @@ module _ (h : Head) (iv it ov ot rs list : List ℕ) (r u at : ℕ) (locks : loc
         user = user;
         lock =
             λ e.
-            let x-is : row (resources_in h.resources.0 rs) r ≡ resource c r = row_read h iv it ov ot rs r refl in
+            let x-is : row (resources_in h.resources.0 t.resources) r ≡ resource c r = row-in h t r in
             let on : has (resource c r).list u ≡ true = ap (λ (y : Resource). has y.list u) (sym x-is) ∙ e in
             let (sets, tokens, orders) = fits on in
-            let L = layer_of (outer_shape h) ot ov in
-            let s = minus (row (resources_in h.resources.0 rs) r).list (single u) in
+            let L = layer_of (outer_shape h) t.outer_tokens t.outer_vertices in
+            let s = minus (row (resources_in h.resources.0 t.resources) r).list (single u) in
             let set : s ≡ revoked_list r u c = ap (λ (y : Resource). minus y.list (single u)) x-is in
-            let made : with_vertex L s ≡ (revoke r u c).book.outer =
-            ap₂ with_vertex (sym (outer-in h (tables iv it ov ot rs))) set ∙ sym (revoke-outer c r u locks there-in on) in
+            let made : with_vertex L s ≡ (revoke r u c).book.outer = ap₂ with_vertex (sym (outer-in h t)) set ∙ sym (revoke-outer c r u locks there-in on) in
             let told : length (revoke r u c).orders ≡ length (vertex_orders 1 2 L s) + 1 =
             revoke-orders c r u locks there-in on
-            ∙ sym (ap₂ (λ (M : Layer) (z : ℕ). length (vertex_orders 1 2 M z) + 1) (sym (outer-in h (tables iv it ov ot rs))) set
+            ∙ sym (ap₂ (λ (M : Layer) (z : ℕ). length (vertex_orders 1 2 M z) + 1) (sym (outer-in h t)) set
             ∙ ap (λ (n : ℕ). n + 1) (vertex_orders-count 1 2 c.outer (revoked_list r u c))) in
             lock-allowed lv lt
             (omega (arith, ap (λ (M : Layer). length M.sets) made))
@@ -113,15 +109,9 @@ module _ (h : Head) (iv it ov ot rs list : List ℕ) (r u at : ℕ) (locks : loc
 
 -- ---- revoke
 
-module _ (h : Head) (iv it ov ot rs list : List ℕ) (r u : ℕ) (ok : Accepted (revokes r u) h (tables iv it ov ot rs) list) where
-  abbrev t : Tables
-  t = tables iv it ov ot rs
-
+module _ {h : Head} {t : Tables} {list : List ℕ} {r u : ℕ} (k : Known (revokes r u) h t list) where
   abbrev b : Book
   b = book_in h t
-
-  k : Known (revokes r u) h t list
-  k = known (revokes r u) h t list ok
 
   revoke-allowed : (u < b.users) × (r < length b.resources) × (has (resource b r).list u ≡ true)
   unfolding Allowed
@@ -131,23 +121,22 @@ module _ (h : Head) (iv it ov ot rs list : List ℕ) (r u : ℕ) (ok : Accepted 
   locks = sound-locked b k.sound' r revoke-allowed.1
 
   there : r < h.resources.0
-  there = omega (arith, revoke-allowed.1, resources-count h iv it ov ot rs)
+  there = omega (arith, revoke-allowed.1, resources-in h t)
 
-  pub revoke-room : StrikeRoom h ov ot rs list r u 0
+  pub revoke-room : StrikeRoom h t list r u 0
   unfolding work
   revoke-room =
-      strike-allowed h iv it ov ot rs list r u 0 locks there k.long.outer_vertices k.long.outer_tokens k.sizes'.room.resources
-      (omega (arith, revoke-allowed.0, users-count h iv it ov ot rs, k.sizes'.users≤))
+      strike-allowed h t list r u 0 locks there k.long.outer_vertices k.long.outer_tokens k.sizes'.room.resources
+      (omega (arith, revoke-allowed.0, users-in h t, k.sizes'.users≤))
       (λ on. (omega (arith, k.after.outer≤, k.after.users≤), k.after.outer_tokens≤, omega (arith, k.orders)))
 
-  module _ {a : Step} {ov' ot' rs' l' : List ℕ} (w : Works (strike_by r u b) h t list 0 a (tables iv it ov' ot' rs') l') where
-    whole : Works (work (revokes r u) b) h t list 0 a (tables iv it ov' ot' rs') l'
+  module _ {a : Step} {w : Tables} {l' : List ℕ} (done' : Works (strike_by r u b) h t list 0 a w l') where
+    whole : Works (work (revokes r u) b) h t list 0 a w l'
     unfolding work
-    whole =
-        subst (λ (d : Done). Works d h t list 0 a (tables iv it ov' ot' rs') l') (strike-is h iv it ov ot rs list r u 0 locks there revoke-allowed.2) w
+    whole = subst (λ (d : Done). Works d h t list 0 a w l') (strike-is h t list r u 0 locks there revoke-allowed.2) done'
 
     pub revoke-count : a.at < 65536
     revoke-count = omega (arith, whole.next, k.few)
 
-    pub revoke-done : TableBytes (tables iv it ov' ot' rs') → applied (record { head = a.head; count = a.at }) (tables iv it ov' ot' rs') l' ≡ change (revokes r u) h t list
-    revoke-done bytes = works-change (revokes r u) h t (tables iv it ov' ot' rs') list l' (record { head = a.head; count = a.at }) a ok bytes whole refl refl
+    pub revoke-done : TableBytes w → applied (record { head = a.head; count = a.at }) w l' ≡ change (revokes r u) h t list
+    revoke-done all = works-change (revokes r u) k.accepted' all whole

@@ -1,5 +1,6 @@
 -- Pieces of work on the tables, one after the other, and the whole of a request's work as its call's change.
 -- Assumes nothing.
+use Rattle.std.specs.Prelude.{Ok}
 use Prim.Native.Nat.{ℕ, ◌+◌, ◌*◌, ◌-◌, ◌≤◌, ◌<◌}
 use mathlib.Core.Path.{◌≡◌, refl, sym, ap, ◌∙◌, subst}
 use mathlib.Core.Bool.{Bool, true, false}
@@ -22,7 +23,6 @@ use Rattle.rules.specs.Refusals.{Request, work}
 use Rattle.rules.specs.Calls.{change, change_by, changing, rows_lent, order_row, order_rows}
 use Rattle.rules.specs.declared.Head.{Head}
 use Rattle.rules.specs.declared.Order.{Order}
-use Rattle.rules.specs.declared.Changed.TheVariants.{Done as Did}
 use Rattle.theorems.specs.Plan.{lock_with, unlock_by, settle_by}
 use Rattle.theorems.proofs.CountLaws.{new_vertices-one, with_vertex-vertices, with_vertex-tokens}
 use Rattle.theorems.proofs.ByteLaws.{TableBytes, head-in, sections-in, sound-room}
@@ -30,15 +30,16 @@ use Rattle.theorems.proofs.RequestLaws.{accepted-long, work-sound}
 use Rattle.theorems.proofs.ServeLaws.{length-orders}
 use Rattle.layer.specs.Laid.{inner_shape, outer_shape, layer_of}
 use Rattle.layer.specs.Cover.{order_of}
-use Rattle.layer.specs.Make.{Fits, VertexFor}
+use Rattle.layer.specs.Make.{VertexFor}
 use Rattle.layer.specs.declared.walk.Shape.{Shape}
 use Rattle.layer.specs.declared.make.Made.{Made}
 use Rattle.layer.proofs.Read.{layer-sets, layer-tokens}
+use Rattle.plan.specs.Waiting.{row}
+use Rattle.plan.proofs.ReadyLaws.{resources-count, users-count, row_read}
 use Rattle.write.specs.Write.{Resources, ResourceAdded, listed, locked}
 use Rattle.apply.specs.Step.{with_inner, with_outer}
 use Rattle.apply.specs.Apply.{Grown, Past, Rest, Works, LockRoom, Accepted, applied}
 use Rattle.apply.specs.declared.step.Step.{Step}
-use Rattle.apply.specs.declared.Applied.{Applied}
 
 -- ---- one after the other
 
@@ -68,15 +69,12 @@ abbrev pub rest : {h : Head} {t u : Tables} → Past h.inner_vertices.0 bytes t.
     → Past h.outer_tokens.0 4 t.outer_tokens u.outer_tokens → Past h.resources.0 (bytes + 4) t.resources u.resources → Rest h t u
 rest iv it ov ot rs = record { inner_vertices = iv; inner_tokens = it; outer_vertices = ov; outer_tokens = ot; resources = rs }
 
-pub grown-none : (h : Head) → Grown h h
-grown-none h = record { inner_vertices = omega arith; inner_tokens = omega arith; outer_vertices = omega arith; outer_tokens = omega arith; resources = omega arith }
-
 pub works-none : {h : Head} {t : Tables} {list : List ℕ} {at : ℕ} → Works (done (book_in h t) []) h t list at (record { head = h; at = at }) t list
 unfolding done order_rows joined
 works-none {h} {t} {list} {at} =
     record {
       book = refl;
-      grown = grown-none h;
+      grown = grind arith;
       past = rest past-none past-none past-none past-none past-none;
       orders = sym (stored-none (at * 3) list);
       next = omega arith;
@@ -92,7 +90,7 @@ works-then {d} f {h} {t} {u} {w} {list} {l1} {l2} {at} {s} {z} room p q =
     let k : Grown s.head z.head = q.grown in
     record {
       book = q.book;
-      grown = record { inner_vertices = omega arith; inner_tokens = omega arith; outer_vertices = omega arith; outer_tokens = omega arith; resources = omega arith };
+      grown = grind arith;
       past =
           rest (past-then k.inner_vertices p.past.inner_vertices q.past.inner_vertices)
           (past-then k.inner_tokens p.past.inner_tokens q.past.inner_tokens)
@@ -131,17 +129,25 @@ works-on {d} {e} f {h} {t} {u} {w} {list} {l1} {l2} {at} {s} {z} room p same q =
 abbrev pub step : Head → ℕ → Step
 step h at = record { head = h; at = at }
 
+-- the tables with the resources replaced, and with the two tables of a layer
+abbrev pub with_rows : Tables → List ℕ → Tables
+with_rows t rs = tables t.inner_vertices t.inner_tokens t.outer_vertices t.outer_tokens rs
+
+abbrev pub with_inner_rows : Tables → List ℕ → List ℕ → Tables
+with_inner_rows t iv it = tables iv it t.outer_vertices t.outer_tokens t.resources
+
+abbrev pub with_outer_rows : Tables → List ℕ → List ℕ → Tables
+with_outer_rows t ov ot = tables t.inner_vertices t.inner_tokens ov ot t.resources
+
 -- resources replaced, with orders os
-pub works-rows : (h : Head) (iv it ov ot rs rs' list l' : List ℕ) (at : ℕ) {xs : List Resource} (os : List Order)
-    → Resources h.resources.0 xs rs rs' → l' ≡ stored (at * 3) (order_rows os) list
-    → let t = tables iv it ov ot rs in
-    Works (done (with_resources (book_in h t) xs) os) h t list at (step h (at + length os)) (tables iv it ov ot rs') l'
+pub works-rows : (h : Head) (t : Tables) {rs list l' : List ℕ} (at : ℕ) {xs : List Resource} (os : List Order)
+    → Resources h.resources.0 xs t.resources rs → l' ≡ stored (at * 3) (order_rows os) list
+    → Works (done (with_resources (book_in h t) xs) os) h t list at (step h (at + length os)) (with_rows t rs) l'
 unfolding done with_resources book_in
-works-rows h iv it ov ot rs rs' list l' at os p o =
-    let b = book_in h (tables iv it ov ot rs) in
+works-rows h t at os p o =
     record {
-      book = ap (with_resources b) p.rows;
-      grown = grown-none h;
+      book = ap (with_resources (book_in h t)) p.rows;
+      grown = grind arith;
       past = rest past-none past-none past-none past-none (record { rest = p.rest; same = p.same });
       orders = o;
       next = refl;
@@ -155,6 +161,17 @@ pub inner-in : (h : Head) (t : Tables) → (book_in h t).inner ≡ layer_of (inn
 unfolding book_in layer_of
 inner-in h t = refl
 
+-- the book counts what the head says
+pub resources-in : (h : Head) (t : Tables) → length (book_in h t).resources ≡ h.resources.0
+resources-in h t = resources-count h t.inner_vertices t.inner_tokens t.outer_vertices t.outer_tokens t.resources
+
+pub users-in : (h : Head) (t : Tables) → (book_in h t).users ≡ h.users.0
+users-in h t = users-count h t.inner_vertices t.inner_tokens t.outer_vertices t.outer_tokens t.resources
+
+-- and its row r is the one that lies there
+pub row-in : (h : Head) (t : Tables) (r : ℕ) → row (resources_in h.resources.0 t.resources) r ≡ resource (book_in h t) r
+row-in h t r = row_read h t.inner_vertices t.inner_tokens t.outer_vertices t.outer_tokens t.resources r refl
+
 -- what finding or making a vertex leaves of its layer's two tables
 record MadeIn (l k : Shape) (L : Layer) (ts vs ts' vs' : List ℕ) : Type 0 where
   layer : layer_of (record { width = l.width; tokens = k.tokens; vertices = k.vertices }) ts' vs' ≡ L
@@ -163,9 +180,9 @@ record MadeIn (l k : Shape) (L : Layer) (ts vs ts' vs' : List ℕ) : Type 0 wher
   vertices-past : Past k.vertices bytes vs vs'
   tokens-past : Past k.tokens l.width ts ts'
 
-made_in : (l : Shape) (s at kv kt : ℕ) (ts vs os : List ℕ) (m : Made) (ts' vs' os' : List ℕ) → VertexFor l s at kv kt ts vs os m ts' vs' os'
+made_in : {l : Shape} {s at kv kt : ℕ} {ts vs os : List ℕ} {m : Made} {ts' vs' os' : List ℕ} → VertexFor l s at kv kt ts vs os m ts' vs' os'
     → MadeIn l m.shape (with_vertex (layer_of l ts vs) s) ts vs ts' vs'
-made_in l s at kv kt ts vs os m ts' vs' os' p =
+made_in {l} {s} {ts = ts} {vs = vs} {m = m} {ts' = ts'} {vs' = vs'} p =
     let L = layer_of l ts vs in
     record {
       layer = ap (λ (w : ℕ). layer_of (record { width = w; tokens = m.shape.tokens; vertices = m.shape.vertices }) ts' vs') (sym p.width) ∙ p.layer;
@@ -180,84 +197,68 @@ works-vertex : {l : Shape} {s at kv kt : ℕ} {ts vs list : List ℕ} {m : Made}
     → d.orders ≡ vertex_orders kv kt (layer_of l ts vs) s
     → (MadeIn l m.shape (with_vertex (layer_of l ts vs) s) ts vs ts' vs' → (book_in k u ≡ d.book) × Grown h k × Rest k t u)
     → Works d h t list at (step k m.at) u l'
-works-vertex {l} {s} {at} {kv} {kt} {ts} {vs} {list} {m} {ts'} {vs'} {l'} p os place =
-    let (book, grown, past) = place (made_in l s at kv kt ts vs list m ts' vs' l' p) in
+works-vertex p os place =
+    let (book, grown, past) = place (made_in p) in
     record { book = book; grown = grown; past = past; orders = rw os p.orders; next = rw os p.next }
 
 -- in the outer layer
-pub works-outer : (h : Head) (iv it ov ot rs ov' ot' list l' : List ℕ) (at s : ℕ) (m : Made) → VertexFor (outer_shape h) s at 1 2 ot ov list m ot' ov' l'
-    → let t = tables iv it ov ot rs in
-    Works (outer_vertex s (book_in h t)) h t list at (step (with_outer h m.shape) m.at) (tables iv it ov' ot' rs) l'
+pub works-outer : (h : Head) (t : Tables) {ov ot list l' : List ℕ} {at s : ℕ} {m : Made} → VertexFor (outer_shape h) s at 1 2 t.outer_tokens t.outer_vertices list m ot ov l'
+    → Works (outer_vertex s (book_in h t)) h t list at (step (with_outer h m.shape) m.at) (with_outer_rows t ov ot) l'
 unfolding outer_vertex done book_in layer_of book.with_outer
-works-outer h iv it ov ot rs ov' ot' list l' at s m p =
+works-outer h t p =
     works-vertex p refl (λ made. (
-      ap (book.with_outer (book_in h (tables iv it ov ot rs))) made.layer,
+      ap (book.with_outer (book_in h t)) made.layer,
       record { inner_vertices = omega arith; inner_tokens = omega arith; outer_vertices = made.vertices≤; outer_tokens = made.tokens≤; resources = omega arith },
       rest past-none past-none made.vertices-past made.tokens-past past-none,
     ))
 
 -- in the inner layer
-pub works-inner : (h : Head) (iv it ov ot rs iv' it' list l' : List ℕ) (at s : ℕ) (m : Made) → VertexFor (inner_shape h) s at 4 5 it iv list m it' iv' l'
-    → let t = tables iv it ov ot rs in
-    Works (inner_vertex s (book_in h t)) h t list at (step (with_inner h m.shape) m.at) (tables iv' it' ov ot rs) l'
+pub works-inner : (h : Head) (t : Tables) {iv it list l' : List ℕ} {at s : ℕ} {m : Made} → VertexFor (inner_shape h) s at 4 5 t.inner_tokens t.inner_vertices list m it iv l'
+    → Works (inner_vertex s (book_in h t)) h t list at (step (with_inner h m.shape) m.at) (with_inner_rows t iv it) l'
 unfolding inner_vertex done book_in layer_of book.with_inner
-works-inner h iv it ov ot rs iv' it' list l' at s m p =
+works-inner h t p =
     works-vertex p refl (λ made. (
-      ap (book.with_inner (book_in h (tables iv it ov ot rs))) made.layer,
+      ap (book.with_inner (book_in h t)) made.layer,
       record { inner_vertices = made.vertices≤; inner_tokens = made.tokens≤; outer_vertices = omega arith; outer_tokens = omega arith; resources = omega arith },
       rest made.vertices-past made.tokens-past past-none past-none past-none,
     ))
 
 -- re-lock r with outer vertex v
-pub works-relock : (h : Head) (iv it ov ot rs rs' list l' : List ℕ) (at r v : ℕ) → Resources h.resources.0 (locked r v (resources_in h.resources.0 rs)) rs rs'
+pub works-relock : (h : Head) (t : Tables) {rs list l' : List ℕ} (at r v : ℕ) → Resources h.resources.0 (locked r v (resources_in h.resources.0 t.resources)) t.resources rs
     → l' ≡ stored (at * 3) (order_of 3 r v) list
-    → let t = tables iv it ov ot rs in
-    Works (relock r v (book_in h t)) h t list at (step h (at + 1)) (tables iv it ov ot rs') l'
+    → Works (relock r v (book_in h t)) h t list at (step h (at + 1)) (with_rows t rs) l'
 unfolding relock with_lock resource book_in order_rows order_row joined
-works-relock h iv it ov ot rs rs' list l' at r v p o = works-rows h iv it ov ot rs rs' list l' at (order 3 r v ∷ []) p o
+works-relock h t at r v p o = works-rows h t at (order 3 r v ∷ []) p o
 
 -- the list of r becomes l
-pub works-list : (h : Head) (iv it ov ot rs rs' list : List ℕ) (at r l : ℕ) → Resources h.resources.0 (listed r l (resources_in h.resources.0 rs)) rs rs'
-    → let t = tables iv it ov ot rs in
-    Works (done (with_list (book_in h t) r l) []) h t list at (step h at) (tables iv it ov ot rs') list
+pub works-list : (h : Head) (t : Tables) {rs : List ℕ} (list : List ℕ) (at r l : ℕ) → Resources h.resources.0 (listed r l (resources_in h.resources.0 t.resources)) t.resources rs
+    → Works (done (with_list (book_in h t) r l) []) h t list at (step h at) (with_rows t rs) list
 unfolding with_list resource book_in order_rows joined
-works-list h iv it ov ot rs rs' list at r l p =
-    rw add-zero at (works-rows h iv it ov ot rs rs' list list at [] p (sym (stored-none (at * 3) list)))
+works-list h t list at r l p = rw add-zero at (works-rows h t at [] p (sym (stored-none (at * 3) list)))
 
 -- the head with n resources
 abbrev pub counting : Head → ℕ → Head
-counting h n =
-    record {
-      mode = h.mode;
-      users = h.users;
-      resources = record { 0 = n };
-      inner_vertices = h.inner_vertices;
-      inner_tokens = h.inner_tokens;
-      outer_vertices = h.outer_vertices;
-      outer_tokens = h.outer_tokens;
-      leavers = h.leavers;
-    }
+counting h n = record h { resources = record { 0 = n } }
 
 -- a new resource with list l and inner vertex v; its order is not told yet
-pub works-row : (h : Head) (iv it ov ot rs rs' list : List ℕ) (at l v : ℕ) → ResourceAdded h.resources.0 l v rs rs'
-    → let t = tables iv it ov ot rs in
-    Works (done (encrypt l v (book_in h t)).book []) h t list at (step (counting h (h.resources.0 + 1)) at) (tables iv it ov ot rs') list
+pub works-row : (h : Head) (t : Tables) {rs : List ℕ} (list : List ℕ) (at l v : ℕ) → ResourceAdded h.resources.0 l v t.resources rs
+    → Works (done (encrypt l v (book_in h t)).book []) h t list at (step (counting h (h.resources.0 + 1)) at) (with_rows t rs) list
 unfolding encrypt done with_resources book_in order_rows joined
-works-row h iv it ov ot rs rs' list at l v p =
+works-row h t list at l v p =
     record {
-      book = ap (with_resources (book_in h (tables iv it ov ot rs))) p.rows;
-      grown = record { inner_vertices = omega arith; inner_tokens = omega arith; outer_vertices = omega arith; outer_tokens = omega arith; resources = omega arith };
+      book = ap (with_resources (book_in h t)) p.rows;
+      grown = grind arith;
       past = rest past-none past-none past-none past-none (record { rest = p.rest; same = p.same });
       orders = sym (stored-none (at * 3) list);
       next = omega arith;
     }
 
 -- an order, and nothing else
-pub works-told : (h : Head) (t : Tables) (list l' : List ℕ) (at k x y : ℕ) → l' ≡ stored (at * 3) (order_of k x y) list
+pub works-told : (h : Head) (t : Tables) {list l' : List ℕ} (at k x y : ℕ) → l' ≡ stored (at * 3) (order_of k x y) list
     → Works (done (book_in h t) (order k x y ∷ [])) h t list at (step h (at + 1)) t l'
 unfolding done order_rows order_row joined
-works-told h t list l' at k x y e =
-    record { book = refl; grown = grown-none h; past = rest past-none past-none past-none past-none past-none; orders = e; next = refl }
+works-told h t at k x y e =
+    record { book = refl; grown = grind arith; past = rest past-none past-none past-none past-none past-none; orders = e; next = refl }
 
 -- the list keeps its length
 pub works-length : {d : Done} {h : Head} {t u : Tables} {list l' : List ℕ} {at : ℕ} {s : Step} → (at + length d.orders) * 3 ≤ length list
@@ -267,47 +268,41 @@ works-length {d} {list = list} {at = at} room p =
 
 -- ---- find or make the outer vertex for s, and re-lock r with it; l and k are the layer's shape and the head afterwards as the code has them
 
-module _ {h : Head} {ov ot rs list : List ℕ} (r s at : ℕ) {l : Shape} (room : LockRoom h ov ot rs list r s at) (shape : l ≡ outer_shape h) where
-  pub lock-fits : Fits l ot ov s list at
-  lock-fits = rw shape room.fits
+module _ {h : Head} {t : Tables} {list : List ℕ} {r s at : ℕ} {l : Shape} {m : Made} {ov ot l1 : List ℕ} (room : LockRoom h t list r s at) (shape : l ≡ outer_shape h)
+    (made : VertexFor l s at 1 2 t.outer_tokens t.outer_vertices list m ot ov l1) where
+  vertex-made : VertexFor (outer_shape h) s at 1 2 t.outer_tokens t.outer_vertices list m ot ov l1
+  vertex-made = subst (λ (x : Shape). VertexFor x s at 1 2 t.outer_tokens t.outer_vertices list m ot ov l1) shape made
 
-  module _ {m : Made} {ov' ot' l1 : List ℕ} (made : VertexFor l s at 1 2 ot ov list m ot' ov' l1) where
-    vertex-made : VertexFor (outer_shape h) s at 1 2 ot ov list m ot' ov' l1
-    vertex-made = subst (λ (x : Shape). VertexFor x s at 1 2 ot ov list m ot' ov' l1) shape made
+  pub lock-counts : (m.shape.vertices < 65536) × (m.shape.tokens < 65536)
+  lock-counts =
+      let L = layer_of (outer_shape h) t.outer_tokens t.outer_vertices in
+      let p = vertex-made in (
+        omega (arith, p.vertices, with_vertex-vertices L s, new_vertices-one L s, layer-sets (outer_shape h) t.outer_tokens t.outer_vertices, room.fits.vertices<),
+        omega (arith, p.tokens, room.tokens<),
+      )
 
-    pub lock-room : ((m.at + 1) * 3 ≤ length list) × (m.shape.vertices < 65536) × (m.shape.tokens < 65536)
-    lock-room =
-        let L = layer_of (outer_shape h) ot ov in
-        let p = vertex-made in (
-          omega (arith, p.next, room.orders),
-          omega (arith, p.vertices, with_vertex-vertices L s, new_vertices-one L s, layer-sets (outer_shape h) ot ov, room.fits.vertices<),
-          omega (arith, p.tokens, room.tokens<),
-        )
-
-    -- v is the vertex that the code re-locks r with
-    pub works-lock : {k : Head} {v : ℕ} (iv it : List ℕ) {rs' l2 : List ℕ} → Resources h.resources.0 (locked r v (resources_in h.resources.0 rs)) rs rs'
-        → l2 ≡ stored (m.at * 3) (order_of 3 r v) l1 → v ≡ m.vertex → k ≡ with_outer h m.shape
-        → let t = tables iv it ov ot rs in
-        Works (lock_with r s (book_in h t)) h t list at (step k (m.at + 1)) (tables iv it ov' ot' rs') l2
-    works-lock {k} {v} iv it {rs'} {l2} q o is e =
-        let t = tables iv it ov ot rs in
-        let for : v ≡ vertex_for (book_in h t).outer s = is ∙ vertex-made.vertex ∙ ap (λ (L : Layer). vertex_for L s) (sym (outer-in h t)) in
-        let one = works-outer h iv it ov ot rs ov' ot' list l1 at s m vertex-made in
-        let two = works-relock (with_outer h m.shape) iv it ov' ot' rs rs' l1 l2 m.at r v q o in
-        rw (e, ← for) (works-next (relock r v) lock-room.0 one two)
+  -- v is the vertex that the code re-locks r with
+  pub works-lock : {k : Head} {v : ℕ} {rs l2 : List ℕ} → Resources h.resources.0 (locked r v (resources_in h.resources.0 t.resources)) t.resources rs
+      → l2 ≡ stored (m.at * 3) (order_of 3 r v) l1 → v ≡ m.vertex → k ≡ with_outer h m.shape
+      → Works (lock_with r s (book_in h t)) h t list at (step k (m.at + 1)) (tables t.inner_vertices t.inner_tokens ov ot rs) l2
+  works-lock {k} {v} q o is e =
+      let for : v ≡ vertex_for (book_in h t).outer s = is ∙ vertex-made.vertex ∙ ap (λ (L : Layer). vertex_for L s) (sym (outer-in h t)) in
+      let room' : (m.at + 1) * 3 ≤ length list = omega (arith, vertex-made.next, room.orders) in
+      let two = works-relock (with_outer h m.shape) (with_outer_rows t ov ot) m.at r v q o in
+      rw (e, ← for) (works-next (relock r v) room' (works-outer h t vertex-made) two)
 
 -- ---- the lock of r, which had outer vertex v: taken off, or one for its list l
 
-module _ {h : Head} {iv it ov ot rs list : List ℕ} {at : ℕ} (r v : ℕ) where
-  pub unlock-none : v ≡ none → Works (unlock_by r v (book_in h (tables iv it ov ot rs))) h (tables iv it ov ot rs) list at (step h at) (tables iv it ov ot rs) list
+module _ {h : Head} {t : Tables} {list : List ℕ} {at v : ℕ} (r : ℕ) where
+  pub unlock-none : v ≡ none → Works (unlock_by r v (book_in h t)) h t list at (step h at) t list
   unfolding unlock_by
   unlock-none e = rw (eq-eqb v none e) works-none
 
-  pub unlock-relocked : {rs' l' : List ℕ} → v ≢ none → Resources h.resources.0 (locked r none (resources_in h.resources.0 rs)) rs rs'
+  pub unlock-relocked : {rs l' : List ℕ} → v ≢ none → Resources h.resources.0 (locked r none (resources_in h.resources.0 t.resources)) t.resources rs
       → l' ≡ stored (at * 3) (order_of 3 r none) list
-      → Works (unlock_by r v (book_in h (tables iv it ov ot rs))) h (tables iv it ov ot rs) list at (step h (at + 1)) (tables iv it ov ot rs') l'
+      → Works (unlock_by r v (book_in h t)) h t list at (step h (at + 1)) (with_rows t rs) l'
   unfolding unlock_by
-  unlock-relocked {rs'} {l'} n p o = rw (ne_eqb v none n) (works-relock h iv it ov ot rs rs' list l' at r none p o)
+  unlock-relocked n p o = rw (ne_eqb v none n) (works-relock h t at r none p o)
 
 module _ (b : Book) {h : Head} {t u : Tables} {list l' : List ℕ} {at : ℕ} (r v l : ℕ) {s : Step} {free : Bool} where
   pub settle-free : free ≡ true → Works (unlock_by r v b) h t list at s u l' → Works (settle_by free r v l b) h t list at s u l'
@@ -352,23 +347,16 @@ works-laid h t u r b p =
 
 -- tables of the same lengths have the same room
 pub room-past : {h k : Head} {t u : Tables} → Rest k t u → Room h t → Room h u
-room-past p r = record {
-  inner_vertices = omega (arith, p.inner_vertices.same);
-  inner_tokens = omega (arith, p.inner_tokens.same);
-  outer_vertices = omega (arith, p.outer_vertices.same);
-  outer_tokens = omega (arith, p.outer_tokens.same);
-  resources = omega (arith, p.resources.same);
-}
+room-past p r = grind arith
 
-pub works-change : (q : Request) (h : Head) (t u : Tables) (list l' : List ℕ) (a : Applied) (s : Step) → Accepted q h t list → TableBytes u
-    → Works (work q (book_in h t)) h t list 0 s u l' → a.head ≡ s.head → a.count ≡ s.at → applied a u l' ≡ change q h t list
+pub works-change : (q : Request) {h : Head} {t u : Tables} {list l' : List ℕ} {s : Step} → Accepted q h t list → TableBytes u
+    → Works (work q (book_in h t)) h t list 0 s u l' → applied (record { head = s.head; count = s.at }) u l' ≡ change q h t list
 unfolding change change_by
-works-change q h t u list l' a s ok b w eh ec =
+works-change q {h} {t} {u} {list} {l'} {s} ok b w =
     let d = work q (book_in h t) in
     let k : head_of d.book ≡ s.head = ap head_of (sym w.book) ∙ head-in s.head u in
     let r : Room s.head t = subst (λ (x : Head). Room x t) k (sound-room d.book t (work-sound t (book_in h t) (rows_lent list) q ok) (accepted-long t (book_in h t) (rows_lent list) q ok)) in
     let tables : u ≡ laid d.book t = sym (works-laid s.head t u (room-past w.past r) b w.past) ∙ ap (λ (x : Book). laid x t) w.book in
     let orders : l' ≡ stored 0 (order_rows d.orders) list = w.orders ∙ rw zero-mul in
-    let count : a.count ≡ length d.orders = omega (arith, ec, w.next) in
-    let head : a.head ≡ head_of d.book = eh ∙ sym k in
-    rw ok (λ i. changing (Did (head i) (count i)) (tables i) (orders i))
+    let count : s.at ≡ length d.orders = omega (arith, w.next) in
+    rw ok (λ i. changing (Ok (record { head = sym k i; count = count i })) (tables i) (orders i))

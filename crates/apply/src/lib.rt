@@ -1,10 +1,9 @@
 // Applying a request that no refusal stops: the rows, and the orders in the order of RULES 6.2.
-// The five tables are iv, it, ov, ot, rs: inner vertices and tokens, outer vertices and tokens, resources.
 #![tactic(auto)]
 
 ghost use Rattle.std.specs.Prelude.{◌≡◌};
 ghost use Rattle.sets.specs.Words.{set_in};
-ghost use Rattle.rules.specs.Bytes.{tables, book_in};
+ghost use Rattle.rules.specs.Bytes.{tables_mut, book_in, SameTables};
 ghost use Rattle.rules.specs.Refusals.{joins, inserts, revokes};
 ghost use Rattle.rules.specs.Calls.{change};
 ghost use Rattle.plan.specs.Judge.{request_of, plan_of};
@@ -12,14 +11,15 @@ ghost use Rattle.apply.specs.Apply.{Accepted, applied};
 
 use crate::grant::apply_grant;
 use crate::leave::apply_leave;
-use crate::step::{Step, settle, strike, with_inner};
+use crate::step::{Step, answer, settle, strike, with_inner};
 use layer::cover::put_order;
 use layer::make::vertex_for;
 use layer::table::put_set;
 use layer::walk::inner_shape;
 use plan::{Plan, Request};
 use rules::{
-    Head, InnerVertex, InnerVertices, Joined, OuterVertex, OuterVertices, Resource, Resources,
+    Applied, Head, InnerVertex, InnerVertices, Joined, OrderKind, OuterVertex, OuterVertices,
+    Resource, Resources, TablesMut,
 };
 use sets::{User, Users};
 use write::add_resource;
@@ -28,119 +28,92 @@ pub mod grant;
 pub mod leave;
 pub mod step;
 
-// The head after a request, and how many orders it gave.
-#[derive(Clone, Copy)]
-pub struct Applied {
-    pub head: Head,
-    pub count: u16,
-}
-
-pub fn apply_join(
-    h: Head,
-    iv: &mut [u8],
-    it: &mut [u8],
-    ov: &mut [u8],
-    ot: &mut [u8],
-    rs: &mut [u8],
-    orders: &mut [u16],
-) -> Applied
-    requires { Accepted joins h (tables iv.old it.old ov.old ot.old rs.old) orders.old }
-    ensures { applied result (tables iv.new it.new ov.new ot.new rs.new) orders.new ≡ change joins h (tables iv.old it.old ov.old ot.old rs.old) orders.old }
+#[tactic(auto, using(crate::proofs::ApplyLaws::join_room))]
+pub fn apply_join(h: Head, t: &mut TablesMut<'_>, orders: &mut [u16]) -> Applied
+    requires { Accepted joins h (tables_mut t.old) orders.old }
+    ensures same { SameTables t.old t.new }
+    ensures value { applied result (tables_mut t.new) orders.new ≡ change joins h (tables_mut t.old) orders.old }
 {
     let s = Users::only(User(h.users.0));
     let i = h.inner_vertices.0;
     let o = h.outer_vertices.0;
-    put_set(iv, i as usize, s);
-    put_set(ov, o as usize, s);
-    put_order(orders, 0, 4, i, 0);
-    put_order(orders, 1, 1, o, 0);
-    let mut head = h;
-    let users = Joined(h.users.0 + 1);
-    let inner = InnerVertices(i + 1);
-    let outer = OuterVertices(o + 1);
-    head.users = users;
-    head.inner_vertices = inner;
-    head.outer_vertices = outer;
-    Applied { head, count: 2 }
+    put_set(t.inner_vertices, i as usize, s);
+    put_set(t.outer_vertices, o as usize, s);
+    put_order(orders, 0, OrderKind::InnerVertex as u16, i, 0);
+    put_order(orders, 1, OrderKind::OuterVertex as u16, o, 0);
+    let head = Head {
+        users: Joined(h.users.0 + 1),
+        inner_vertices: InnerVertices(i + 1),
+        outer_vertices: OuterVertices(o + 1),
+        ..h
+    };
+    answer(Step { head, at: 2 }, t)
 }
 
 // The vertex, the row, and its lock, which may be none; the order for the row comes last.
 pub fn apply_insert(
     h: Head,
-    iv: &mut [u8],
-    it: &mut [u8],
-    ov: &mut [u8],
-    ot: &mut [u8],
-    rs: &mut [u8],
+    t: &mut TablesMut<'_>,
     orders: &mut [u16],
     l: Users,
     p: Plan,
 ) -> Applied
-    requires accepted { Accepted (inserts (set_in l)) h (tables iv.old it.old ov.old ot.old rs.old) orders.old }
-    requires p_value { p ≡ plan_of (inserts (set_in l)) (book_in h (tables iv.old it.old ov.old ot.old rs.old)) }
-    ensures { applied result (tables iv.new it.new ov.new ot.new rs.new) orders.new ≡ change (inserts (set_in l)) h (tables iv.old it.old ov.old ot.old rs.old) orders.old }
+    requires accepted { Accepted (inserts (set_in l)) h (tables_mut t.old) orders.old }
+    requires p_value { p ≡ plan_of (inserts (set_in l)) (book_in h (tables_mut t.old)) }
+    ensures same { SameTables t.old t.new }
+    ensures value { applied result (tables_mut t.new) orders.new ≡ change (inserts (set_in l)) h (tables_mut t.old) orders.old }
 {
-    let m = vertex_for(iv, it, inner_shape(h), l, orders, 0, 4, 5);
+    let m = vertex_for(
+        t.inner_vertices,
+        t.inner_tokens,
+        inner_shape(h),
+        l,
+        orders,
+        0,
+        OrderKind::InnerVertex as u16,
+        OrderKind::InnerToken as u16,
+    );
     let n = h.resources.0;
-    add_resource(rs, n as usize, l, InnerVertex(m.vertex));
-    let mut head = with_inner(h, m.shape);
-    let resources = Resources(n + 1);
-    head.resources = resources;
+    add_resource(t.resources, n as usize, l, InnerVertex(m.vertex));
+    let head = Head {
+        resources: Resources(n + 1),
+        ..with_inner(h, m.shape)
+    };
     let a = Step { head, at: m.at };
     let none = OuterVertex(OuterVertex::NONE);
-    let b = settle(a, ov, ot, rs, orders, Resource(n), none, l, p.free);
-    put_order(orders, b.at, 7, n, m.vertex);
-    let after = b.head;
-    Applied {
-        head: after,
-        count: (b.at + 1) as u16,
-    }
+    let b = settle(a, t, orders, Resource(n), none, l, p.free);
+    put_order(orders, b.at, OrderKind::Encrypt as u16, n, m.vertex);
+    answer(Step { at: b.at + 1, ..b }, t)
 }
 
 pub fn apply_revoke(
     h: Head,
-    iv: &mut [u8],
-    it: &mut [u8],
-    ov: &mut [u8],
-    ot: &mut [u8],
-    rs: &mut [u8],
+    t: &mut TablesMut<'_>,
     orders: &mut [u16],
     r: Resource,
     u: User,
 ) -> Applied
-    requires { Accepted (revokes r.0 u.0) h (tables iv.old it.old ov.old ot.old rs.old) orders.old }
-    ensures { applied result (tables iv.new it.new ov.new ot.new rs.new) orders.new ≡ change (revokes r.0 u.0) h (tables iv.old it.old ov.old ot.old rs.old) orders.old }
+    requires { Accepted (revokes r.0 u.0) h (tables_mut t.old) orders.old }
+    ensures same { SameTables t.old t.new }
+    ensures value { applied result (tables_mut t.new) orders.new ≡ change (revokes r.0 u.0) h (tables_mut t.old) orders.old }
 {
     let start = Step { head: h, at: 0 };
-    let a = strike(start, ov, ot, rs, orders, r, u);
-    let head = a.head;
-    Applied {
-        head,
-        count: a.at as u16,
-    }
+    let a = strike(start, t, orders, r, u);
+    answer(a, t)
 }
 
 // Applying a request with its plan.
-pub fn apply(
-    h: Head,
-    iv: &mut [u8],
-    it: &mut [u8],
-    ov: &mut [u8],
-    ot: &mut [u8],
-    rs: &mut [u8],
-    orders: &mut [u16],
-    q: Request,
-    p: Plan,
-) -> Applied
-    requires accepted { Accepted (request_of q) h (tables iv.old it.old ov.old ot.old rs.old) orders.old }
-    requires p_value { p ≡ plan_of (request_of q) (book_in h (tables iv.old it.old ov.old ot.old rs.old)) }
-    ensures { applied result (tables iv.new it.new ov.new ot.new rs.new) orders.new ≡ change (request_of q) h (tables iv.old it.old ov.old ot.old rs.old) orders.old }
+pub fn apply(h: Head, t: &mut TablesMut<'_>, orders: &mut [u16], q: Request, p: Plan) -> Applied
+    requires accepted { Accepted (request_of q) h (tables_mut t.old) orders.old }
+    requires p_value { p ≡ plan_of (request_of q) (book_in h (tables_mut t.old)) }
+    ensures same { SameTables t.old t.new }
+    ensures value { applied result (tables_mut t.new) orders.new ≡ change (request_of q) h (tables_mut t.old) orders.old }
 {
     match q {
-        Request::Join => apply_join(h, iv, it, ov, ot, rs, orders),
-        Request::Insert(l) => apply_insert(h, iv, it, ov, ot, rs, orders, l, p),
-        Request::Grant(r, u) => apply_grant(h, iv, it, ov, ot, rs, orders, r, u, p),
-        Request::Revoke(r, u) => apply_revoke(h, iv, it, ov, ot, rs, orders, r, u),
-        Request::Leave(u) => apply_leave(h, iv, it, ov, ot, rs, orders, u),
+        Request::Join => apply_join(h, t, orders),
+        Request::Insert(l) => apply_insert(h, t, orders, l, p),
+        Request::Grant(r, u) => apply_grant(h, t, orders, r, u, p),
+        Request::Revoke(r, u) => apply_revoke(h, t, orders, r, u),
+        Request::Leave(u) => apply_leave(h, t, orders, u),
     }
 }

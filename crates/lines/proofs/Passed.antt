@@ -11,11 +11,12 @@ use lib.ListN.{length, take, drop, get_or, drop_of_length-le}
 use mir.Val.{bool_byte}
 use lib.Seq.{drop-cons, get_or-drop, take_all}
 use borrow.Author.Tests.{leb-true, lt-ltb, le-ltb}
-use Rattle.std.specs.Prelude.{Some, None}
-use Rattle.std.specs.List.{list_any, position_or_len}
+use Rattle.std.specs.Prelude.{Option, Some, None}
+use Rattle.std.specs.List.{list_any, AllWithin, HoldsAt}
+use Rattle.std.specs.Option.{MatchOption, unwrap_or}
 use Rattle.std.specs.Cmp.Lexicographic.{pointwise}
 use Rattle.std.proofs.lemmas.Bool.Decides.{nat_tests}
-use Rattle.std.proofs.lemmas.List.Recursion.{is_position_or_len}
+use Rattle.std.proofs.lemmas.Iterator.{index_from_first}
 use Rattle.sets.specs.Sets.{single, union}
 use Rattle.sets.proofs.Laws.{union_assoc, both}
 use Rattle.rules.specs.Lists.{some, every, first}
@@ -92,9 +93,12 @@ module _ (p : ℕ → Bool) where
   some_is [] = refl
   some_is (x ∷ xs) = ap (λ (b : Bool). p x || b) (some_is xs)
 
-  pub first_is : (xs : List ℕ) → first p xs ≡ position_or_len p xs
+  -- the place where `position` stops, or the length
+  pub first_found : (xs : List ℕ) (r : Option ℕ)
+      → MatchOption r (AllWithin (λ x. p x ≡ false) xs 0 (length xs)) (λ i. (i < length xs) × HoldsAt (λ x. p x ≡ true) xs i × AllWithin (λ x. p x ≡ false) xs 0 i)
+      → first p xs ≡ unwrap_or r (length xs)
   unfolding first
-  first_is xs = is_position_or_len (first p) p refl (λ x ys. ap (λ (n : ℕ). cond (p x) 0 n) (omega arith)) xs
+  first_found = index_from_first (first p) (λ x. p x ≡ true) (λ x. p x ≡ false) refl (λ x ys e. rw e) (λ x ys e. rw e (sym (add-one (first p ys))))
 
 pub flag-is : (b : Bool) → bool_byte b ≡ cond b 1 0
 flag-is true = refl

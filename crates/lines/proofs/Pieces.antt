@@ -6,19 +6,18 @@ use mathlib.Core.List.{List, [], ◌∷◌, ◌++◌, map, append_assoc, append-
 use native.Mathlib.Numerals.{add-one}
 use native.Mathlib.Omega.{arith}
 use lib.Dec.{eqb}
-use lib.ListN.{length, take, set}
+use lib.ListN.{length, take, drop, get_or, set}
 use lib.Seq.{take-suc-set}
+use borrow.Author.Tests.{eqb-true}
 use Rattle.std.specs.Prelude.{Option, Some, None}
 use Rattle.std.specs.List.{slice_split, onto_first}
 use Rattle.std.proofs.lemmas.List.Splits.{length-slice_split}
-use Rattle.rules.specs.Lists.{every}
+use Rattle.rules.specs.Lists.{every, first}
 use Rattle.lines.specs.Request.{longer, pieces, shaped, is_number, value, number_in}
 use Rattle.lines.specs.Program.{span}
+use Rattle.lines.specs.Reading.{space, behind, numbers_of}
 
 -- ---- pieces
-
-abbrev pub space : ℕ → Bool
-space c = eqb c 32
 
 longer_is : (x : ℕ) (ps : List (List ℕ)) → 0 < length ps → longer x ps ≡ onto_first x ps
 unfolding longer
@@ -32,6 +31,27 @@ pieces_is (x ∷ xs) =
     rw (pieces_is xs)
     (ap (λ (ps : List (List ℕ)). cond (eqb x 32) ([] ∷ slice_split space xs) ps) (longer_is x (slice_split space xs) (omega (arith, length-slice_split space xs))))
 
+-- the first piece, and the pieces behind the space that ends it
+pub first_piece : (xs : List ℕ) → pieces xs ≡ take (first space xs) xs ∷ behind (drop (first space xs) xs)
+unfolding pieces longer first
+first_piece [] = refl
+first_piece (x ∷ xs) = go (first_piece xs) (eqb x 32) refl
+  where
+    go : pieces xs ≡ take (first space xs) xs ∷ behind (drop (first space xs) xs) → (b : Bool) → eqb x 32 ≡ b
+        → pieces (x ∷ xs) ≡ take (first space (x ∷ xs)) (x ∷ xs) ∷ behind (drop (first space (x ∷ xs)) (x ∷ xs))
+    go ih true e = rw e (rw e)
+    go ih false e = rw (e, ih)
+
+-- a piece ends at a space or at the end
+pub ends-spaced : (xs : List ℕ) → get_or (drop (first space xs) xs) 0 32 ≡ 32
+unfolding first
+ends-spaced [] = refl
+ends-spaced (x ∷ xs) = go (ends-spaced xs) (eqb x 32) refl
+  where
+    go : get_or (drop (first space xs) xs) 0 32 ≡ 32 → (b : Bool) → eqb x 32 ≡ b → get_or (drop (first space (x ∷ xs)) (x ∷ xs)) 0 32 ≡ 32
+    go ih true e = rw e (eqb-true x 32 e)
+    go ih false e = rw e ih
+
 -- each piece with the space or the end behind it
 pub pieces-span : (xs : List ℕ) → span (pieces xs) ≡ length xs + 1
 unfolding pieces span longer
@@ -44,10 +64,6 @@ pieces-span (x ∷ xs) = go (eqb x 32) (pieces xs) (pieces-span xs)
     go false (p ∷ ps) e = omega arith
 
 -- ---- the numbers of the pieces
-
--- the numbers of some pieces, where each is one
-unfoldable pub numbers_of : List (List ℕ) → Option (List ℕ)
-numbers_of ps = cond (every is_number ps) (Some (map value ps)) None
 
 -- numbers in front of those of the pieces still to come
 abbrev pub onto : List ℕ → Option (List ℕ) → Option (List ℕ)

@@ -1,8 +1,9 @@
 // A line of the request program, without its newline.
-ghost use Rattle.std.specs.Prelude.{◌≡◌};
+ghost use Rattle.std.specs.Prelude.{◌≡◌, ◌≤◌, length};
 ghost use Rattle.lines.specs.Request.{shaped, number_in, kind_of, twice, users, above, insert_of, exactly, row_of, line_asks, first_line};
+ghost use Rattle.rules.specs.Lists.{first};
 ghost use Rattle.rules.specs.Kinds.{request_number};
-ghost use Rattle.lines.specs.Reading.{kind_told};
+ghost use Rattle.lines.specs.Reading.{space, Rest, behind, numbers_of, got, counted, kind_told};
 
 use rules::{Mode, RequestKind};
 use sets::{User, Users};
@@ -148,6 +149,30 @@ fn row_of(kind: RequestKind, numbers: &[u64]) -> Option<Asked>
     }
 }
 
+// How many numbers a line's rest has, put into the array, if each piece is one. The rest is the part behind the word and starts at a space or is empty, as RULES
+// 14.3 asks: so its first piece is empty, and no number.
+fn read_numbers(rest: &[u8], numbers: &mut [u64]) -> Option<usize>
+    requires rest { Rest rest.now }
+    requires in_bounds { 256 ≤ length numbers.old }
+    ensures numbers_after { got result numbers.new ≡ numbers_of (behind rest.now) }
+    ensures result_bound { counted result ≤ 256 }
+{
+    let mut count = 0;
+    for piece in rest.split(|c| *c == b' ').skip(1) {
+        numbers[count] = number_in(piece)?;
+        count += 1;
+    }
+    Some(count)
+}
+
+// Where a line's first word ends: at a space or at the line's end.
+fn word_end(line: &[u8]) -> usize
+    ensures value { result ≡ first space line.now }
+    ensures upper_bound { result ≤ length line.now }
+{
+    line.iter().position(|c| *c == b' ').unwrap_or(line.len())
+}
+
 // What a line asks, if it is a request; it is given without its newline. "It has at most 512 bytes", so at most 256 numbers.
 pub fn read_line(line: &[u8]) -> Option<Asked>
     ensures { result ≡ line_asks line.now }
@@ -155,14 +180,10 @@ pub fn read_line(line: &[u8]) -> Option<Asked>
     if line.len() > 512 {
         return None;
     }
-    let mut pieces = line.split(|c| *c == b' ');
-    let kind = kind_of(pieces.next()?)?;
+    let k = word_end(line);
+    let kind = kind_of(&line[..k])?;
     let mut numbers = [0u64; 256];
-    let mut count = 0;
-    for piece in pieces {
-        numbers[count] = number_in(piece)?;
-        count += 1;
-    }
+    let count = read_numbers(&line[k..], &mut numbers)?;
     row_of(kind, &numbers[..count])
 }
 

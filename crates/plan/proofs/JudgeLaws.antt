@@ -1,5 +1,6 @@
 -- The plan of each request is what the table of refusals and the rules on unlimited tables give.
 -- Assumes nothing.
+use Rattle.std.specs.Prelude.{Result, Ok, Err}
 use Prim.Native.Nat.{ℕ, suc, ◌+◌, ◌^◌, ◌≤◌, ◌<◌}
 use mathlib.Core.Path.{◌≡◌, refl, sym, ap, ap₂, ◌∙◌, subst}
 use mathlib.Core.Bool.{Bool, true, false, ◌&&◌, not, cond}
@@ -31,22 +32,20 @@ use Rattle.theorems.proofs.AccessLaws.{users-of, work-access}
 use Rattle.theorems.proofs.CountLaws.{with_vertex-vertices, with_vertex-tokens}
 use Rattle.theorems.proofs.NeighbourLaws.{none-waits, none-waits-full}
 use Rattle.theorems.proofs.PlanLaws.{insert_agrees, insert-inner, insert-outer, insert-orders, insert-agrees, revoke-outer, revoke-inner, revoke-orders, grant-vertices, grant-tokens, grant-inner-tokens, grant-orders}
-use Rattle.layer.specs.Laid.{inner_shape, layer_of, no_resource}
+use Rattle.layer.specs.Laid.{no_resource}
 use Rattle.layer.specs.Make.{sets_only}
 use Rattle.layer.specs.declared.make.New.{New}
 use Rattle.plan.specs.declared.Plan.{Plan}
-use Rattle.plan.specs.declared.Judged.{Judged}
-use Rattle.plan.specs.declared.Judged.TheVariants.{Go, No}
 use Rattle.plan.specs.declared.judge.After.{After}
 use Rattle.plan.specs.declared.judge.Part.{Part}
 use Rattle.plan.specs.Waiting.{waits_in, waiters_in, waiters_of}
 use Rattle.plan.specs.Judge.{Ready, plan, plan_of, judged_by, judged, limited, holders_are, part, lock_part, settled_part, group_part, joint, after_of, grant_part, grant_plan}
-use Rattle.plan.proofs.ReadyLaws.{book_of, Sizes, sizes, users-count, leavers-are, mode-count, resources-count, outer-count, inner-tokens-count, outer-tokens-count, inner-new, row_read, such-told}
+use Rattle.plan.proofs.ReadyLaws.{book_of, Sizes, sizes, users-count, leavers-are, mode-count, resources-count, outer-count, inner-tokens-count, outer-tokens-count, inner-new, row_read, none-such, some-such}
 
 -- ---- the verdict
 
 -- one of the request's own
-pub judged-no : (q : Request) (b : Book) (room : ℕ) {x : Refusal} → verdict (own q b) ≡ some x → No x ≡ judged q b room
+pub judged-no : (q : Request) (b : Book) (room : ℕ) {x : Refusal} → verdict (own q b) ≡ some x → Err x ≡ judged q b room
 unfolding judged judged_by
 judged-no q b room e = sym (ap (λ (o : Option Refusal). judged_by o (plan_of q b)) (verdict-first (own q b) (limits room (work q b)) e))
 
@@ -144,16 +143,16 @@ module _ (h : Head) (iv it ov ot rs : List ℕ) where
 
   -- ---- what is read in the tables is the book's
 
-  free_in : (l : ℕ) → (eqb h.mode.0 1 && holders_are (layer_of (inner_shape h) it iv) l) ≡ insert_free l b
-  unfolding insert_free holders_are layer_of book_in
+  free_in : (l : ℕ) → (eqb h.mode.0 1 && holders_are b.inner l) ≡ insert_free l b
+  unfolding insert_free holders_are book_in
   free_in l = refl
 
   insert-plan-is : (l : ℕ) → plan (insert_free l b) false 0 ≡ plan_of (inserts l) b
   unfolding plan_of
   insert-plan-is l = refl
 
-  grant-plan-is : (r u : ℕ) → grant_plan h.mode.0 (holders (layer_of (inner_shape h) it iv) (resource b r).inner) (resource b r).list u ≡ plan_of (grants r u) b
-  unfolding plan_of agreed holders_of layer_of book_in
+  grant-plan-is : (r u : ℕ) → grant_plan h.mode.0 (holders b.inner (resource b r).inner) (resource b r).list u ≡ plan_of (grants r u) b
+  unfolding plan_of agreed holders_of book_in
   grant-plan-is r u = refl
 
   insert-passed : (l : ℕ) → l < 2 ^ h.users.0 → apart l (set_in h.leavers) ≡ true → (l ≡ 0 → ⊥) → h.resources.0 < max_resources → verdict (own (inserts l) b) ≡ none
@@ -221,17 +220,17 @@ module _ (h : Head) (iv it ov ot rs : List ℕ) where
     -- ---- each request, with the callees' answers as premises
 
     module _ (room : ℕ) where
-      pub insert-judged : (l : ℕ) {free : Bool} {i : New} {s : Part} {a : After} {p : Plan} {j : Judged} → l < 2 ^ h.users.0 → apart l (set_in h.leavers) ≡ true → (l ≡ 0 → ⊥) → h.resources.0 < max_resources
-          → free ≡ (eqb h.mode.0 1 && holders_are (layer_of (inner_shape h) it iv) l)
+      pub insert-judged : (l : ℕ) {L : Layer} {free : Bool} {i : New} {s : Part} {a : After} {p : Plan} {j : Result Plan Refusal} → l < 2 ^ h.users.0 → apart l (set_in h.leavers) ≡ true → (l ≡ 0 → ⊥) → h.resources.0 < max_resources
+          → L ≡ b.inner → free ≡ (eqb h.mode.0 1 && holders_are L l)
           → i.vertices ≡ new_vertices (sets_only h.inner_vertices.0 iv) l → i.tokens ≡ new_tokens (sets_only h.inner_vertices.0 iv) l
           → s ≡ settled_part free book.none sets l
           → a ≡ after_of h i.tokens (i.vertices + i.tokens + 1) s
           → p ≡ plan free false 0 → j ≡ limited a room p → j ≡ judged (inserts l) b room
-      insert-judged l {free} {i} {s} {a} {p} lb here some' few ef ev et es ea ep ej =
+      insert-judged l {L} {free} {i} {s} {a} {p} lb here some' few eL ef ev et es ea ep ej =
           ej ∙ judged-limited (inserts l) b room a p passed (subst (Leaves (work (inserts l) b)) (sym after) (insert-leaves l lb)) planned
         where
           is_free : free ≡ insert_free l b
-          is_free = ef ∙ free_in l
+          is_free = ef ∙ ap (λ (M : Layer). eqb h.mode.0 1 && holders_are M l) eL ∙ free_in l
 
           passed : verdict (own (inserts l) b) ≡ none
           passed = insert-passed l lb here some' few
@@ -242,19 +241,19 @@ module _ (h : Head) (iv it ov ot rs : List ℕ) where
           after : a ≡ after_of h (new_tokens b.inner l) (new_vertices b.inner l + new_tokens b.inner l + 1) (settled_part (insert_free l b) book.none b.outer l)
           after = ea ∙ rw (es, ev, et, is_free, (inner-new h iv it ov ot rs l).0, (inner-new h iv it ov ot rs l).1, settled-in (insert_free l b) book.none l)
 
-      pub insert-no-such : (l : ℕ) → ltb l (2 ^ h.users.0) ≡ false → No NoSuch ≡ judged (inserts l) b room
+      pub insert-no-such : (l : ℕ) → ltb l (2 ^ h.users.0) ≡ false → Err NoSuch ≡ judged (inserts l) b room
       unfolding own verdict
       insert-no-such l e = judged-no (inserts l) b room (rw (users-count h iv it ov ot rs, e))
 
-      pub insert-left : (l : ℕ) → ltb l (2 ^ h.users.0) ≡ true → apart l (set_in h.leavers) ≡ false → No HasLeft ≡ judged (inserts l) b room
+      pub insert-left : (l : ℕ) → ltb l (2 ^ h.users.0) ≡ true → apart l (set_in h.leavers) ≡ false → Err HasLeft ≡ judged (inserts l) b room
       unfolding own verdict
       insert-left l e g = judged-no (inserts l) b room (rw (users-count h iv it ov ot rs, leavers-are h iv it ov ot rs, e, g))
 
-      pub insert-empty : (l : ℕ) → ltb l (2 ^ h.users.0) ≡ true → apart l (set_in h.leavers) ≡ true → l ≡ 0 → No EmptyList ≡ judged (inserts l) b room
+      pub insert-empty : (l : ℕ) → ltb l (2 ^ h.users.0) ≡ true → apart l (set_in h.leavers) ≡ true → l ≡ 0 → Err EmptyList ≡ judged (inserts l) b room
       unfolding own verdict
       insert-empty l e g q = judged-no (inserts l) b room (rw (users-count h iv it ov ot rs, leavers-are h iv it ov ot rs, e, g, eq-eqb l 0 q))
 
-      pub insert-full : (l : ℕ) → ltb l (2 ^ h.users.0) ≡ true → apart l (set_in h.leavers) ≡ true → (l ≡ 0 → ⊥) → max_resources ≤ h.resources.0 → No ResourcesFull ≡ judged (inserts l) b room
+      pub insert-full : (l : ℕ) → ltb l (2 ^ h.users.0) ≡ true → apart l (set_in h.leavers) ≡ true → (l ≡ 0 → ⊥) → max_resources ≤ h.resources.0 → Err ResourcesFull ≡ judged (inserts l) b room
       unfolding own verdict
       insert-full l e g n m =
           judged-no (inserts l) b room
@@ -273,35 +272,39 @@ module _ (h : Head) (iv it ov ot rs : List ℕ) where
             le-ltb max_tokens (length b.outer.tokens) (omega (arith, outer-tokens-count h iv it ov ot rs)),
           )
 
-      pub join-full : max_users ≤ h.users.0 → No UsersFull ≡ judged joins b room
+      pub join-full : max_users ≤ h.users.0 → Err UsersFull ≡ judged joins b room
       unfolding own verdict
       join-full m = judged-no joins b room (rw (users-count h iv it ov ot rs, le-leb max_users h.users.0 m))
 
-      pub join-short : h.users.0 < max_users → room < 2 → No ShortList ≡ judged joins b room
+      pub join-short : h.users.0 < max_users → room < 2 → Err ShortList ≡ judged joins b room
       unfolding judged judged_by
       join-short few m = rw (join-verdict few, lt-ltb room 2 m)
 
-      pub join-judged : h.users.0 < max_users → 2 ≤ room → {p : Plan} → p ≡ plan false false 0 → Go p ≡ judged joins b room
+      pub join-judged : h.users.0 < max_users → 2 ≤ room → {p : Plan} → p ≡ plan false false 0 → Ok p ≡ judged joins b room
       unfolding judged judged_by plan_of
-      join-judged few m e = rw (join-verdict few, le-ltb room 2 m) (ap Go e)
+      join-judged few m e = rw (join-verdict few, le-ltb room 2 m) (ap Ok e)
 
       -- grant and revoke: z and y are the code's tests for 1 and for 5 and 6, x the row that was read
-      module _ (r u : ℕ) {z : Bool} (ez : z ≡ not (ltb u h.users.0 && ltb r h.resources.0)) where
-        pub grant-no-such : z ≡ true → No NoSuch ≡ judged (grants r u) b room
+      module _ (r u : ℕ) {z : Result Unit Refusal} (ez : z ≡ cond (ltb u h.users.0 && ltb r h.resources.0) (Ok tt) (Err NoSuch)) where
+        pub grant-no-such : {e : Refusal} → z ≡ Err e → Err e ≡ judged (grants r u) b room
         unfolding own verdict
-        grant-no-such e = judged-no (grants r u) b room (rw (sym (such-told h iv it ov ot rs r u ez) ∙ e))
+        grant-no-such {e} q =
+            let (a, k) = none-such h iv it ov ot rs r u ez q in
+            judged-no (grants r u) b room (rw (a, k))
 
-        pub revoke-no-such : z ≡ true → No NoSuch ≡ judged (revokes r u) b room
+        pub revoke-no-such : {e : Refusal} → z ≡ Err e → Err e ≡ judged (revokes r u) b room
         unfolding own verdict
-        revoke-no-such e = judged-no (revokes r u) b room (rw (sym (such-told h iv it ov ot rs r u ez) ∙ e))
+        revoke-no-such {e} q =
+            let (a, k) = none-such h iv it ov ot rs r u ez q in
+            judged-no (revokes r u) b room (rw (a, k))
 
-        pub grant-left : z ≡ false → has (set_in h.leavers) u ≡ true → No HasLeft ≡ judged (grants r u) b room
+        pub grant-left : {x : Unit} → z ≡ Ok x → has (set_in h.leavers) u ≡ true → Err HasLeft ≡ judged (grants r u) b room
         unfolding own verdict
-        grant-left ok g = judged-no (grants r u) b room (rw (sym (such-told h iv it ov ot rs r u ez) ∙ ok, leavers-are h iv it ov ot rs, g))
+        grant-left ok g = judged-no (grants r u) b room (rw (some-such h iv it ov ot rs r u ez ok, leavers-are h iv it ov ot rs, g))
 
-        module _ (ok : z ≡ false) {x : Resource} (ex : x ≡ get_or (resources_in h.resources.0 rs) r no_resource) {y : Bool} (ey : y ≡ has x.list u) where
+        module _ {o : Unit} (ok : z ≡ Ok o) {x : Resource} (ex : x ≡ get_or (resources_in h.resources.0 rs) r no_resource) {y : Bool} (ey : y ≡ has x.list u) where
           exists : no_such b u r ≡ false
-          exists = sym (such-told h iv it ov ot rs r u ez) ∙ ok
+          exists = some-such h iv it ov ot rs r u ez ok
 
           row : x ≡ resource b r
           row = row_read h iv it ov ot rs r ex
@@ -309,11 +312,11 @@ module _ (h : Head) (iv it ov ot rs : List ℕ) where
           test : {w : Bool} → y ≡ w → has (resource b r).list u ≡ w
           test e = ap (λ (a : Resource). has a.list u) (sym row) ∙ sym ey ∙ e
 
-          pub grant-listed : has (set_in h.leavers) u ≡ false → y ≡ true → No Listed ≡ judged (grants r u) b room
+          pub grant-listed : has (set_in h.leavers) u ≡ false → y ≡ true → Err Listed ≡ judged (grants r u) b room
           unfolding own verdict
           grant-listed g e = judged-no (grants r u) b room (rw (exists, test e, leavers-are h iv it ov ot rs, g))
 
-          pub revoke-unlisted : y ≡ false → No NotListed ≡ judged (revokes r u) b room
+          pub revoke-unlisted : y ≡ false → Err NotListed ≡ judged (revokes r u) b room
           unfolding own verdict
           revoke-unlisted e = judged-no (revokes r u) b room (rw (exists, test e))
 
@@ -325,7 +328,7 @@ module _ (h : Head) (iv it ov ot rs : List ℕ) where
           unfolding own verdict
           revoke-passed e = rw (exists, test e)
 
-          pub revoke-judged : {l : ℕ} {s : Part} {a : After} {p : Plan} {j : Judged} → y ≡ true → l ≡ minus x.list (single u) → s ≡ lock_part sets l 1 → a ≡ after_of h 0 0 s
+          pub revoke-judged : {l : ℕ} {s : Part} {a : After} {p : Plan} {j : Result Plan Refusal} → y ≡ true → l ≡ minus x.list (single u) → s ≡ lock_part sets l 1 → a ≡ after_of h 0 0 s
               → p ≡ plan false false 0 → j ≡ limited a room p → j ≡ judged (revokes r u) b room
           unfolding plan_of
           revoke-judged {l} {s} {a} {p} e el es ea ep ej =
@@ -336,19 +339,19 @@ module _ (h : Head) (iv it ov ot rs : List ℕ) where
               after : a ≡ after_of h 0 0 (lock_part b.outer (revoked_list r u b) 1)
               after = ea ∙ ap (after_of h 0 0) (es ∙ lock-in l 1 ∙ ap (λ (k : ℕ). lock_part b.outer k 1) (el ∙ ap (λ (w : Resource). minus w.list (single u)) row))
 
-          pub grant-judged : {p : Plan} {s : Part} {a : After} {j : Judged} → has (set_in h.leavers) u ≡ false → y ≡ false
-              → p ≡ grant_plan h.mode.0 (holders (layer_of (inner_shape h) it iv) x.inner) x.list u
+          pub grant-judged : {L : Layer} {p : Plan} {s : Part} {a : After} {j : Result Plan Refusal} → has (set_in h.leavers) u ≡ false → y ≡ false
+              → L ≡ b.inner → p ≡ grant_plan h.mode.0 (holders L x.inner) x.list u
               → s ≡ grant_part h ov rs r u x p
               → a ≡ after_of h (cond p.token 1 0) (cond p.token 1 0) s
               → j ≡ limited a room p → j ≡ judged (grants r u) b room
           unfolding plan_of grant_part
-          grant-judged {p} {s} {a} g e ep es ea ej =
+          grant-judged {L} {p} {s} {a} g e eL ep es ea ej =
               ej
               ∙ judged-limited (grants r u) b room a p (grant-passed g e)
               (subst (Leaves (work (grants r u) b)) (sym after) (grant-leaves r u (such b u r exists).1 (such b u r exists).0 (test e))) planned
             where
               planned : p ≡ plan_of (grants r u) b
-              planned = ep ∙ ap (λ (w : Resource). grant_plan h.mode.0 (holders (layer_of (inner_shape h) it iv) w.inner) w.list u) row ∙ grant-plan-is r u
+              planned = ep ∙ ap (λ (M : Layer). grant_plan h.mode.0 (holders M x.inner) x.list u) eL ∙ ap (λ (w : Resource). grant_plan h.mode.0 (holders b.inner w.inner) w.list u) row ∙ grant-plan-is r u
 
               parted : s ≡ joint (group_part (length (waiters b r u)) b.outer (holders_of b r)) (settled_part (agreed r u b) (resource b r).outer b.outer (granted_list r u b))
               parted =

@@ -1,5 +1,6 @@
 -- The tally of a leave, resource by resource: the seen layer's sets are those of the layer that the revokes so far would leave.
 -- Assumes nothing.
+use Rattle.std.specs.Prelude.{Result, Err}
 use Prim.Native.Nat.{ℕ, ◌+◌, ◌*◌, ◌≤◌, ◌<◌}
 use mathlib.Core.Path.{◌≡◌, refl, sym, ap, ap₂, ◌∙◌, subst}
 use mathlib.Core.Bool.{Bool, true, false, cond}
@@ -24,6 +25,7 @@ use Rattle.rules.specs.Bytes.{tables, book_in, resources_in}
 use Rattle.rules.specs.Refusals.{verdict, leaves, own, work}
 use Rattle.rules.specs.Runs.{access, listed}
 use Rattle.rules.specs.declared.Head.{Head}
+use Rattle.rules.specs.declared.Refusal.{Refusal}
 use Rattle.rules.specs.declared.Refusal.TheVariants.{NoSuch, HasLeft}
 use Rattle.theorems.specs.Plan.{new_vertices, new_tokens, with_all, all_vertices, all_tokens, left_lists}
 use Rattle.theorems.proofs.LeaveLaws.{with_all-vertices, with_all-tokens, with_all-next, all_vertices-next, all_tokens-next, new_vertices-sets, new_tokens-sets, all-sets, with_vertex-old, with_vertex-new, leave-outer, leave-inner, leave-orders}
@@ -33,14 +35,11 @@ use Rattle.layer.specs.Seen.{left_of, seen_sets, seen_layer, SeenIn}
 use Rattle.layer.specs.declared.seen.Seen.{Seen}
 use Rattle.layer.proofs.Read.{length-resources}
 use Rattle.plan.specs.Waiting.{row}
-use Rattle.plan.specs.Judge.{Ready, Few, plan, plan_of, judged, limited, part, after_of}
-use Rattle.plan.specs.Leave.{names_in, left_in, tally, tally_of, leave_part}
+use Rattle.plan.specs.Judge.{Ready, Few, plan, plan_of, judged, limited, part, lock_part, joint, after_of}
+use Rattle.plan.specs.Leave.{names_in, left_in, list_part, leave_part}
 use Rattle.plan.specs.declared.Plan.{Plan}
-use Rattle.plan.specs.declared.Judged.{Judged}
-use Rattle.plan.specs.declared.Judged.TheVariants.{No}
 use Rattle.plan.specs.declared.judge.After.{After}
 use Rattle.plan.specs.declared.judge.Part.{Part}
-use Rattle.plan.specs.declared.leave.Tally.{Tally}
 use Rattle.plan.proofs.WaitLaws.{below, below_none, below-yes, below-no}
 use Rattle.plan.proofs.ReadyLaws.{book_of, users-count, leavers-are, outer-count, inner-tokens-count, outer-tokens-count}
 use Rattle.plan.proofs.JudgeLaws.{Leaves, judged-no, judged-limited, same-users}
@@ -48,27 +47,29 @@ use Rattle.plan.proofs.JudgeLaws.{Leaves, judged-no, judged-limited, same-users}
 -- ---- what a list adds
 
 module _ (L : Layer) (list u : ℕ) where
-  pub tally-out : has list u ≡ false → tally 0 0 0 ≡ tally_of L list u
-  unfolding tally_of
-  tally-out e = rw e
+  pub list-out : has list u ≡ false → part 0 0 0 ≡ list_part L list u
+  unfolding list_part
+  list-out e = rw e
 
-  pub tally-in : {v t : ℕ} → has list u ≡ true → v ≡ new_vertices L (minus list (single u)) → t ≡ new_tokens L (minus list (single u)) → tally v t 1 ≡ tally_of L list u
-  unfolding tally_of
-  tally-in e p q = rw (e, p, q)
+  pub list-in : {v t : ℕ} {p : Part} → has list u ≡ true → v ≡ new_vertices L (minus list (single u)) → t ≡ new_tokens L (minus list (single u)) → p ≡ part v t (v + t + 1)
+      → p ≡ list_part L list u
+  unfolding list_part
+  list-in e p q is = rw (e, ← p, ← q) is
+
+part-is : {a b c x y z : ℕ} → a ≡ x → b ≡ y → c ≡ z → part a b c ≡ part x y z
+part-is p q r = rw (p, q, r)
 
 -- ---- the first i resources
 
--- m new vertices, told by the resources in the first m places of fs; t tokens, k re-locks
-pub record Tallied (L : Layer) (xs : List Resource) (u : ℕ) (fs : List ℕ) (m t k i : ℕ) : Type 0 where
-  pub sets : L.sets ++ map (left_of xs u) (take m fs) ≡ (with_all L (left_in xs u i)).sets
-  pub vertices : m ≡ all_vertices L (left_in xs u i)
-  pub tokens : t ≡ all_tokens L (left_in xs u i)
-  pub locks : k ≡ length (left_in xs u i)
-  pub there : (j : ℕ) → j < m → get_or fs j 0 < length xs
+-- what their lists add is p, its new vertices told by the resources in the first places of fs
+pub record Tallied (L : Layer) (xs : List Resource) (u : ℕ) (fs : List ℕ) (p : Part) (i : ℕ) : Type 0 where
+  pub sets : L.sets ++ map (left_of xs u) (take p.vertices fs) ≡ (with_all L (left_in xs u i)).sets
+  pub counts : p ≡ leave_part L (left_in xs u i)
+  pub there : (j : ℕ) → j < p.vertices → get_or fs j 0 < length xs
   pub places : length fs ≡ max_resources
-  pub m≤ : m ≤ i
-  pub t≤ : t ≤ people * i
-  pub k≤ : k ≤ i
+  pub vertices≤ : p.vertices ≤ i
+  pub tokens≤ : p.tokens ≤ people * i
+  pub orders≤ : p.orders ≤ (people + 2) * i
 
 module _ (L : Layer) (xs : List Resource) (u : ℕ) where
   left-none : left_in xs u 0 ≡ []
@@ -83,51 +84,47 @@ module _ (L : Layer) (xs : List Resource) (u : ℕ) where
   unfolding left_in
   left-no i e = ap (map (left_of xs u)) (below-no (names_in xs u) i refl e)
 
-  pub tallied-none : (fs : List ℕ) → length fs ≡ max_resources → Tallied L xs u fs 0 0 0 0
+  pub tallied-none : (fs : List ℕ) → length fs ≡ max_resources → Tallied L xs u fs (part 0 0 0) 0
   unfolding with_all all_vertices all_tokens
   tallied-none fs n =
       record {
         sets = append-nil L.sets ∙ ap (λ (ss : List ℕ). (with_all L ss).sets) (sym left-none);
-        vertices = ap (all_vertices L) (sym left-none);
-        tokens = ap (all_tokens L) (sym left-none);
-        locks = ap length (sym left-none);
+        counts = ap (leave_part L) (sym left-none);
         there = λ j l. absurd (not-suc-le-zero l);
         places = n;
-        m≤ = omega arith;
-        t≤ = omega arith;
-        k≤ = omega arith;
+        vertices≤ = omega arith;
+        tokens≤ = omega arith;
+        orders≤ = omega arith;
       }
 
-  module _ {fs : List ℕ} {m t k i : ℕ} (d : Tallied L xs u fs m t k i) (l : i < length xs) (few : i < max_resources) where
+  module _ {fs : List ℕ} {p : Part} {i : ℕ} (d : Tallied L xs u fs p i) (l : i < length xs) (few : i < max_resources) where
     abbrev seen : Layer
-    seen = record { sets = L.sets ++ map (left_of xs u) (take m fs); tokens = [] }
+    seen = record { sets = L.sets ++ map (left_of xs u) (take p.vertices fs); tokens = [] }
 
     abbrev fs' : List ℕ
-    fs' = set fs m i
+    fs' = set fs p.vertices i
 
-    place : m < length fs
-    place = omega (arith, d.places, d.m≤)
+    place : p.vertices < length fs
+    place = omega (arith, d.places, d.vertices≤)
 
-    named-next : (v : ℕ) → v ≤ 1 → (j : ℕ) → j < m + v → get_or fs' j 0 < length xs
-    named-next v h j q = go (ℕ_discrete j m)
+    named-next : (v : ℕ) → v ≤ 1 → (j : ℕ) → j < p.vertices + v → get_or fs' j 0 < length xs
+    named-next v h j q = go (ℕ_discrete j p.vertices)
       where
-        go : Dec (j ≡ m) → get_or fs' j 0 < length xs
-        go (yes e) = rw (e, get_or-set_same fs m i 0 place) l
-        go (no n) = rw (get_or-set_other fs m j i 0 n) (d.there j (omega arith))
+        go : Dec (j ≡ p.vertices) → get_or fs' j 0 < length xs
+        go (yes e) = rw (e, get_or-set_same fs p.vertices i 0 place) l
+        go (no n) = rw (get_or-set_other fs p.vertices j i 0 n) (d.there j (omega arith))
 
     -- the list does not name u
-    pub tallied-out : has (row xs i).list u ≡ false → Tallied L xs u fs' m t k (i + 1)
+    pub tallied-out : has (row xs i).list u ≡ false → Tallied L xs u fs' p (i + 1)
     tallied-out e =
         record {
-          sets = rw (left-no i e, take-set-le m fs m i (omega arith)) d.sets;
-          vertices = rw (left-no i e) d.vertices;
-          tokens = rw (left-no i e) d.tokens;
-          locks = rw (left-no i e) d.locks;
+          sets = rw (left-no i e, take-set-le p.vertices fs p.vertices i (omega arith)) d.sets;
+          counts = rw (left-no i e) d.counts;
           there = λ j q. named-next 0 (omega arith) j (omega arith);
-          places = length-set fs m i ∙ d.places;
-          m≤ = omega (arith, d.m≤);
-          t≤ = omega (arith, d.t≤);
-          k≤ = omega (arith, d.k≤);
+          places = length-set fs p.vertices i ∙ d.places;
+          vertices≤ = omega (arith, d.vertices≤);
+          tokens≤ = omega (arith, d.tokens≤);
+          orders≤ = omega (arith, d.orders≤);
         }
 
     module _ (e : has (row xs i).list u ≡ true) where
@@ -138,47 +135,50 @@ module _ (L : Layer) (xs : List Resource) (u : ℕ) where
       W = with_all L (left_in xs u i)
 
       -- the sets afterwards
-      sets-next : (found W s ≡ true) ⊎ (found W s ≡ false) → L.sets ++ map (left_of xs u) (take (m + new_vertices W s) fs') ≡ (with_vertex W s).sets
+      sets-next : (found W s ≡ true) ⊎ (found W s ≡ false) → L.sets ++ map (left_of xs u) (take (p.vertices + new_vertices W s) fs') ≡ (with_vertex W s).sets
       sets-next (inl f) =
           let (a, b) = with_vertex-old W s f in
-          rw (b, add-zero m, take-set-le m fs m i (omega arith), a) d.sets
+          rw (b, add-zero p.vertices, take-set-le p.vertices fs p.vertices i (omega arith), a) d.sets
       sets-next (inr f) =
           let (a, b) = with_vertex-new W s f in
-          rw (b, add-one m, take-suc-set fs m i place, map-append (left_of xs u) (take m fs) (i ∷ []), a)
-          (sym (append_assoc L.sets (map (left_of xs u) (take m fs)) (s ∷ [])) ∙ ap (λ (ss : List ℕ). ss ++ (s ∷ [])) d.sets)
+          rw (b, add-one p.vertices, take-suc-set fs p.vertices i place, map-append (left_of xs u) (take p.vertices fs) (i ∷ []), a)
+          (sym (append_assoc L.sets (map (left_of xs u) (take p.vertices fs)) (s ∷ [])) ∙ ap (λ (ss : List ℕ). ss ++ (s ∷ [])) d.sets)
 
       either_way : (z : Bool) → found W s ≡ z → (found W s ≡ true) ⊎ (found W s ≡ false)
       either_way true f = inl f
       either_way false f = inr f
 
-      pub tallied-in : {v w : ℕ} → v ≡ new_vertices seen s → w ≡ new_tokens seen s → v ≤ 1 → w ≤ people → Tallied L xs u fs' (m + v) (t + w) (k + 1) (i + 1)
+      pub tallied-in : {v w : ℕ} → v ≡ new_vertices seen s → w ≡ new_tokens seen s → v ≤ 1 → w ≤ people → Tallied L xs u fs' (joint p (part v w (v + w + 1))) (i + 1)
       tallied-in {v} {w} ev ew v≤ w≤ =
           let av : v ≡ new_vertices W s = ev ∙ new_vertices-sets seen W d.sets s in
           let aw : w ≡ new_tokens W s = ew ∙ new_tokens-sets seen W d.sets s in
+          let pv = ap (λ (q : Part). q.vertices) d.counts in
+          let pt = ap (λ (q : Part). q.tokens) d.counts in
+          let po = ap (λ (q : Part). q.orders) d.counts in
+          let nv = all_vertices-next L (left_in xs u i) s in
+          let nt = all_tokens-next L (left_in xs u i) s in
           record {
             sets = rw (left-yes i e, with_all-next L (left_in xs u i) s, av) (sets-next (either_way (found W s) refl));
-            vertices = rw (left-yes i e, all_vertices-next L (left_in xs u i) s, av) (ap (λ (n : ℕ). n + new_vertices W s) d.vertices);
-            tokens = rw (left-yes i e, all_tokens-next L (left_in xs u i) s, aw) (ap (λ (n : ℕ). n + new_tokens W s) d.tokens);
-            locks = rw (left-yes i e, length-append (left_in xs u i) (s ∷ [])) (ap (λ (n : ℕ). n + 1) d.locks);
+            counts =
+                rw (left-yes i e)
+                (part-is (omega arith) (omega arith) (omega (arith, length-append (left_in xs u i) (s ∷ []))));
             there = named-next v v≤;
-            places = length-set fs m i ∙ d.places;
-            m≤ = omega (arith, d.m≤);
-            t≤ = omega (arith, d.t≤);
-            k≤ = omega (arith, d.k≤);
+            places = length-set fs p.vertices i ∙ d.places;
+            vertices≤ = omega (arith, d.vertices≤);
+            tokens≤ = omega (arith, d.tokens≤);
+            orders≤ = omega (arith, d.orders≤);
           }
 
     -- one resource on, by what the code counted for it
-    pub tallied-next : {y : Tally} → y ≡ tally_of seen (row xs i).list u → (y.vertices ≤ 1) × (y.tokens ≤ people) × (y.locks ≤ 1)
-        → Tallied L xs u fs' (m + y.vertices) (t + y.tokens) (k + y.locks) (i + 1)
-    unfolding tally_of
-    tallied-next {y} q b = go (has (row xs i).list u) refl q
+    pub tallied-next : {y z : Part} → y ≡ list_part seen (row xs i).list u → (y.vertices ≤ 1) × (y.tokens ≤ people) × (y.orders ≤ people + 2) → z ≡ joint p y
+        → Tallied L xs u fs' z (i + 1)
+    unfolding list_part
+    tallied-next {y} {z} q b both = rw both (go (has (row xs i).list u) refl q)
       where
-        go : (z : Bool) → has (row xs i).list u ≡ z → y ≡ cond z (tally (new_vertices seen (left_of xs u i)) (new_tokens seen (left_of xs u i)) 1) (tally 0 0 0)
-            → Tallied L xs u fs' (m + y.vertices) (t + y.tokens) (k + y.locks) (i + 1)
+        go : (w : Bool) → has (row xs i).list u ≡ w → y ≡ cond w (lock_part seen (left_of xs u i) 1) (part 0 0 0) → Tallied L xs u fs' (joint p y) (i + 1)
         go true e r =
-            subst (λ (n : ℕ). Tallied L xs u fs' (m + y.vertices) (t + y.tokens) (k + n) (i + 1)) (sym (ap (λ (x : Tally). x.locks) r))
-            (tallied-in e (ap (λ (x : Tally). x.vertices) r) (ap (λ (x : Tally). x.tokens) r) b.0 b.1)
-        go false e r = rw (r, add-zero m, add-zero t, add-zero k) (tallied-out e)
+            rw r (tallied-in e refl refl (rw (sym (ap (λ (x : Part). x.vertices) r)) b.0) (rw (sym (ap (λ (x : Part). x.tokens) r)) b.1))
+        go false e r = rw (r, add-zero p.vertices, add-zero p.tokens, add-zero p.orders) (tallied-out e)
 
 -- ---- in the tables
 
@@ -193,34 +193,26 @@ module _ (ov rs : List ℕ) (v n u : ℕ) where
   abbrev pub seen_with : ℕ → Seen
   seen_with m = record { vertices = v; new = m; resources = n; leaver = record { 0 = u } }
 
-  module _ {fs : List ℕ} {m t k i : ℕ} (d : Tallied sets rows u fs m t k i) (l : i < n) (few : n ≤ max_resources) where
-    pub tallied-seen : v * bytes ≤ length ov → n * (bytes + 4) ≤ length rs → v ≤ max_vertices → u < people → SeenIn (seen_with m) ov rs fs
+  module _ {fs : List ℕ} {p : Part} {i : ℕ} (d : Tallied sets rows u fs p i) (l : i < n) (few : n ≤ max_resources) where
+    pub tallied-seen : v * bytes ≤ length ov → n * (bytes + 4) ≤ length rs → v ≤ max_vertices → u < people → SeenIn (seen_with p.vertices) ov rs fs
     tallied-seen a b w q =
         record {
           sets = a;
           rows = b;
-          places = omega (arith, d.places, d.m≤);
+          places = omega (arith, d.places, d.vertices≤);
           user = q;
-          few = omega (arith, d.m≤);
+          few = omega (arith, d.vertices≤);
           there = λ j h. omega (arith, d.there j h, length-resources n rs);
         }
 
-    pub tallied-step : {y : Tally} → y ≡ tally_of (seen_layer (seen_with m) ov rs fs) (row rows i).list u → (y.vertices ≤ 1) × (y.tokens ≤ people) × (y.locks ≤ 1)
-        → Tallied sets rows u (set fs m i) (m + y.vertices) (t + y.tokens) (k + y.locks) (i + 1)
+    pub tallied-step : {y z : Part} → y ≡ list_part (seen_layer (seen_with p.vertices) ov rs fs) (row rows i).list u
+        → (y.vertices ≤ 1) × (y.tokens ≤ people) × (y.orders ≤ people + 2) → z ≡ joint p y → Tallied sets rows u (set fs p.vertices i) z (i + 1)
     unfolding seen_sets
-    tallied-step e b = tallied-next sets rows u d (omega (arith, length-resources n rs)) (omega arith) e b
+    tallied-step e b both = tallied-next sets rows u d (omega (arith, length-resources n rs)) (omega arith) e b both
 
   -- after the last resource
-  pub tallied-all : {fs : List ℕ} {m t k i : ℕ} → Tallied sets rows u fs m t k i → i ≡ n → n ≤ max_resources
-      → (part m t (m + t + k) ≡ leave_part sets (left_in rows u n)) × Few (part m t (m + t + k))
-  tallied-all {fs} {m} {t} {k} {i} d e few =
-      let all : left_in rows u i ≡ left_in rows u n = ap (left_in rows u) e in
-      let a : m ≡ all_vertices sets (left_in rows u n) = d.vertices ∙ ap (all_vertices sets) all in
-      let b : t ≡ all_tokens sets (left_in rows u n) = d.tokens ∙ ap (all_tokens sets) all in
-      let c : k ≡ length (left_in rows u n) = d.locks ∙ ap length all in (
-        rw (a, b, c),
-        omega (arith, d.m≤, d.t≤, d.k≤),
-      )
+  pub tallied-all : {fs : List ℕ} {p : Part} {i : ℕ} → Tallied sets rows u fs p i → i ≡ n → n ≤ max_resources → (p ≡ leave_part sets (left_in rows u n)) × Few p
+  tallied-all d e few = (d.counts ∙ ap (λ (k : ℕ). leave_part sets (left_in rows u k)) e, omega (arith, d.vertices≤, d.tokens≤, d.orders≤))
 
 -- ---- the verdict
 
@@ -254,12 +246,12 @@ module _ (h : Head) (iv it ov ot rs : List ℕ) (ready : Ready h (tables iv it o
         orders = omega (arith, leave-orders u b ready.sound');
       }
 
-  pub leave-no-such : h.users.0 ≤ u → No NoSuch ≡ judged (leaves u) b room
+  pub leave-no-such : h.users.0 ≤ u → Err NoSuch ≡ judged (leaves u) b room
   unfolding own verdict
   leave-no-such l = judged-no (leaves u) b room (rw (users-count h iv it ov ot rs, le-ltb u h.users.0 l))
 
   module _ (l : u < h.users.0) where
-    pub leave-left : has (set_in h.leavers) u ≡ true → No HasLeft ≡ judged (leaves u) b room
+    pub leave-left : has (set_in h.leavers) u ≡ true → Err HasLeft ≡ judged (leaves u) b room
     unfolding own verdict
     leave-left e = judged-no (leaves u) b room (rw (users-count h iv it ov ot rs, leavers-are h iv it ov ot rs, lt-ltb u h.users.0 l, e))
 
@@ -267,7 +259,7 @@ module _ (h : Head) (iv it ov ot rs : List ℕ) (ready : Ready h (tables iv it o
     unfolding own verdict
     leave-passed e = rw (users-count h iv it ov ot rs, leavers-are h iv it ov ot rs, lt-ltb u h.users.0 l, e)
 
-    pub leave-judged : {s : Part} {a : After} {p : Plan} {j : Judged} → has (set_in h.leavers) u ≡ false
+    pub leave-judged : {s : Part} {a : After} {p : Plan} {j : Result Plan Refusal} → has (set_in h.leavers) u ≡ false
         → s ≡ leave_part (sets_only h.outer_vertices.0 ov) (left_in (resources_in h.resources.0 rs) u h.resources.0)
         → a ≡ after_of h 0 0 s → p ≡ plan false false 0 → j ≡ limited a room p → j ≡ judged (leaves u) b room
     unfolding plan_of

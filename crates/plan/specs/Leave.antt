@@ -5,12 +5,11 @@ use Rattle.sets.specs.Sets.{has, single, minus}
 use Rattle.rules.specs.Lists.{keep, up_to}
 use Rattle.rules.specs.Layer.{Layer}
 use Rattle.rules.specs.Book.{Resource}
-use Rattle.theorems.specs.Plan.{new_vertices, new_tokens, all_vertices, all_tokens}
+use Rattle.theorems.specs.Plan.{all_vertices, all_tokens}
 use Rattle.layer.specs.Seen.{left_of}
 use Rattle.plan.specs.Waiting.{row}
-use Rattle.plan.specs.Judge.{part}
+use Rattle.plan.specs.Judge.{part, lock_part}
 use Rattle.plan.specs.declared.judge.Part.{Part}
-use Rattle.plan.specs.declared.leave.Tally.{Tally}
 
 -- the list of resource r names u
 abbrev pub names_in : List Resource → ℕ → ℕ → Bool
@@ -20,12 +19,9 @@ names_in xs u r = has (row xs r).list u
 unfoldable pub left_in : List Resource → ℕ → ℕ → List ℕ
 left_in xs u i = map (left_of xs u) (keep (names_in xs u) (up_to i))
 
-abbrev pub tally : ℕ → ℕ → ℕ → Tally
-tally v t k = record { vertices = v; tokens = t; locks = k }
-
 -- what one list adds to the outer layer L: nothing where it does not name u
-unfoldable pub tally_of : Layer → ℕ → ℕ → Tally
-tally_of L list u = cond (has list u) (tally (new_vertices L (minus list (single u))) (new_tokens L (minus list (single u))) 1) (tally 0 0 0)
+unfoldable pub list_part : Layer → ℕ → ℕ → Part
+list_part L list u = cond (has list u) (lock_part L (minus list (single u)) 1) (part 0 0 0)
 
 -- a vertex for each of these sets in the outer layer L, one after the other, and a re-lock each
 abbrev pub leave_part : Layer → List ℕ → Part

@@ -1,26 +1,29 @@
 // Every refusal but 13 and 12, judged on the tables as they are: 7, 8, 9 and 10 on what the rules on unlimited tables would leave. Nothing is written here.
-// The five tables are iv, it, ov, ot, rs: inner vertices and tokens, outer vertices and tokens, resources.
-ghost use Rattle.std.specs.Prelude.{◌≡◌, false, ◌&&◌, not, cond, ◌+◌, ◌*◌, ◌≤◌, ◌<◌, eqb, ltb, length};
+ghost use Rattle.std.specs.Prelude.{◌≡◌, ◌^◌, false, ◌&&◌, cond, ◌+◌, ◌*◌, ◌≤◌, ◌<◌, eqb, ltb, length, Ok, Err};
 ghost use Rattle.sets.specs.Words.{people, bytes, set_in};
-ghost use Rattle.rules.specs.Bytes.{tables, book_in};
+ghost use Rattle.rules.specs.Bytes.{tables_of, book_in};
+ghost use Rattle.rules.specs.declared.Refusal.TheVariants.{NoSuch};
 ghost use Rattle.rules.specs.Holders.{holders};
 ghost use Rattle.rules.specs.Refusals.{joins, inserts, grants, revokes, leaves};
-ghost use Rattle.layer.specs.Laid.{Laid, inner_shape, layer_of, resource_is};
+ghost use Rattle.layer.specs.Laid.{inner_shape, resource_is};
+ghost use Rattle.layer.specs.Lent.{layer_in};
 ghost use Rattle.layer.specs.Make.{sets_only};
-ghost use Rattle.plan.specs.Judge.{Ready, request_of, plan, judged, limited, holders_are, Few, lock_part, settled_part, group_part, joint, after_of, grant_part, grant_plan};
+ghost use Rattle.plan.specs.Judge.{Ready, request_of, plan, judged, limited, holders_are, Few, part, lock_part, settled_part, group_part, joint, after_of, grant_part, grant_plan};
 
+use crate::book::SoundBook;
 use crate::leave::leave_part;
 use crate::waiting::waiting;
-use crate::{Judged, Plan, Request};
-use layer::holders::holders_of;
-use layer::make::new_rows;
-use layer::table::{Found, find_set, resource_in};
-use layer::walk::{Shape, inner_shape};
+use crate::{Plan, Request};
+use layer::laid::Layer;
+use layer::make::{New, new_rows};
+use layer::table::{find_set, resource_in};
+use layer::walk::inner_shape;
 use rules::{
     Head, InnerTokens, InnerVertex, Joined, OuterTokens, OuterVertex, OuterVertices, Refusal,
-    Resource, ResourceRow, Resources,
+    Resource, ResourceRow, Resources, Tables,
 };
 use sets::{User, Users};
+use std::ops::Add;
 
 // The rows that a request would leave, and the orders it would give.
 #[derive(Clone, Copy)]
@@ -40,24 +43,60 @@ pub struct Part {
     pub orders: usize,
 }
 
+impl Part {
+    pub(crate) const NOTHING: Part = Part {
+        vertices: 0,
+        tokens: 0,
+        orders: 0,
+    };
+
+    // The rows of a vertex, and n re-locks with it.
+    pub(crate) fn locking(rows: New, n: usize) -> Part
+        requires { (rows.vertices ≤ 1) × (rows.tokens ≤ people) × (n < 65536) }
+        ensures { result ≡ part rows.vertices rows.tokens (rows.vertices + rows.tokens + n) }
+    {
+        Part {
+            vertices: rows.vertices,
+            tokens: rows.tokens,
+            orders: rows.vertices + rows.tokens + n,
+        }
+    }
+}
+
+impl Add for Part {
+    type Output = Part;
+
+    ghost can_add = { λ p q. (p.vertices + q.vertices < 2 ^ 64) × (p.tokens + q.tokens < 2 ^ 64) × (p.orders + q.orders < 2 ^ 64) };
+
+    ghost add_gives = { λ p q both. both ≡ joint p q };
+
+    fn add(self, other: Part) -> Part {
+        Part {
+            vertices: self.vertices + other.vertices,
+            tokens: self.tokens + other.tokens,
+            orders: self.orders + other.orders,
+        }
+    }
+}
+
 // 7, 8, 9 and 10, in this order; else the plan.
-fn limits(a: After, room: usize, p: Plan) -> Judged
+fn limits(a: After, room: usize, p: Plan) -> Result<Plan, Refusal>
     requires { a.users ≤ people }
     ensures { result ≡ limited a room p }
 {
     if a.outer_vertices > a.users + OuterVertices::GROUPS as usize {
-        return Judged::No(Refusal::GroupsFull);
+        return Err(Refusal::GroupsFull);
     }
     if a.inner_tokens > InnerTokens::LIMIT as usize {
-        return Judged::No(Refusal::InnerTokensFull);
+        return Err(Refusal::InnerTokensFull);
     }
     if a.outer_tokens > OuterTokens::LIMIT as usize {
-        return Judged::No(Refusal::OuterTokensFull);
+        return Err(Refusal::OuterTokensFull);
     }
     if a.orders > room {
-        return Judged::No(Refusal::ShortList);
+        return Err(Refusal::ShortList);
     }
-    Judged::Go(p)
+    Ok(p)
 }
 
 // The plan of a request that adds no kind 1 token.
@@ -85,14 +124,14 @@ fn rows_after(h: Head, tokens: usize, orders: usize, p: Part) -> After
     }
 }
 
-// Whether the user or the resource does not exist.
-pub fn no_such(h: Head, r: Resource, u: User) -> bool
-    ensures { result ≡ not (ltb u.0 h.users.0 && ltb r.0 h.resources.0) }
+// The user and the resource exist.
+pub fn exist(h: Head, r: Resource, u: User) -> Result<(), Refusal>
+    ensures { result ≡ cond (ltb u.0 h.users.0 && ltb r.0 h.resources.0) (Ok tt) (Err NoSuch) }
 {
-    if u.0 >= h.users.0 {
-        return true;
+    if u.0 >= h.users.0 || r.0 >= h.resources.0 {
+        return Err(Refusal::NoSuch);
     }
-    r.0 >= h.resources.0
+    Ok(())
 }
 
 // ---- parts of the outer work
@@ -103,12 +142,7 @@ fn lock_rows(h: Head, ov: &[u8], list: Users, n: usize) -> Part
     ensures value { result ≡ lock_part (sets_only h.outer_vertices.0 ov.now) (set_in list) n }
     ensures vertices_bound { (result.vertices ≤ 1) × (result.tokens ≤ people) × (result.orders ≤ people + 1 + n) }
 {
-    let o = new_rows(ov, h.outer_vertices.0 as usize, list);
-    Part {
-        vertices: o.vertices,
-        tokens: o.tokens,
-        orders: o.vertices + o.tokens + n,
-    }
+    Part::locking(new_rows(ov, h.outer_vertices.0 as usize, list), n)
 }
 
 // The folder itself: its outer key taken off, or a lock for the list.
@@ -120,14 +154,12 @@ fn settled(h: Head, ov: &[u8], free: bool, outer: OuterVertex, list: Users) -> P
     if !free {
         return lock_rows(h, ov, list, 1);
     }
-    let mut orders: usize = 1;
     if outer.0 == OuterVertex::NONE {
-        orders = 0;
+        return Part::NOTHING;
     }
     Part {
-        vertices: 0,
-        tokens: 0,
-        orders,
+        orders: 1,
+        ..Part::NOTHING
     }
 }
 
@@ -140,154 +172,64 @@ fn with_neighbours(h: Head, ov: &[u8], n: usize, holders: Users, s: Part) -> Par
     if n == 0 {
         return s;
     }
-    let o = lock_rows(h, ov, holders, n);
-    Part {
-        vertices: o.vertices + s.vertices,
-        tokens: o.tokens + s.tokens,
-        orders: o.orders + s.orders,
-    }
-}
-
-// ---- join
-
-pub fn judge_join(
-    h: Head,
-    iv: &[u8],
-    it: &[u8],
-    ov: &[u8],
-    ot: &[u8],
-    rs: &[u8],
-    room: usize,
-) -> Judged
-    requires { Ready h (tables iv.now it.now ov.now ot.now rs.now) }
-    ensures { result ≡ judged joins (book_in h (tables iv.now it.now ov.now ot.now rs.now)) room }
-{
-    if h.users.0 >= Joined::LIMIT {
-        return Judged::No(Refusal::UsersFull);
-    }
-    if room < 2 {
-        return Judged::No(Refusal::ShortList);
-    }
-    Judged::Go(plain(false))
+    lock_rows(h, ov, holders, n) + s
 }
 
 // ---- insert
 
-// The holders of inner vertex v.
-pub fn all_holders(iv: &[u8], it: &[u8], i: Shape, v: InnerVertex) -> Users
-    requires laid { Laid i it.now iv.now }
-    requires v_lt_vertices { v.0 < i.vertices }
-    ensures { set_in result ≡ holders (layer_of i it.now iv.now) v.0 }
+// The inner layer as it lies in the tables.
+pub fn inner_layer<'a>(h: Head, t: &Tables<'a>) -> Layer<'a>
+    requires { Ready h (tables_of t.now) }
+    ensures shape { result.shape ≡ inner_shape h }
+    ensures layer { layer_in result ≡ (book_in h (tables_of t.now)).inner }
 {
-    let k = holders_of(it, iv, i, v.0);
+    Layer {
+        vertices: t.inner_vertices,
+        tokens: t.inner_tokens,
+        shape: inner_shape(h),
+    }
+}
+
+// The holders of inner vertex v.
+pub fn all_holders(l: &Layer<'_>, v: InnerVertex) -> Users
+    requires { v.0 < l.now.shape.vertices }
+    ensures { set_in result ≡ holders (layer_in l.now) v.0 }
+{
+    let k = l.holders_of(v.0);
     k.start.union(k.token)
 }
 
-// Whether the vertex for l has l for its holders: it is new, or no token lets in anyone else.
-fn holders_are(iv: &[u8], it: &[u8], i: Shape, l: Users) -> bool
-    requires laid { Laid i it.now iv.now }
-    requires vertices_bound { i.vertices < 65536 }
-    ensures { result ≡ holders_are (layer_of i it.now iv.now) (set_in l) }
+// Whether the vertex for a list has the list for its holders: it is new, or no token lets in anyone else.
+fn holders_are(l: &Layer<'_>, list: Users) -> bool
+    requires { l.now.shape.vertices < 65536 }
+    ensures { result ≡ holders_are (layer_in l.now) (set_in list) }
 {
-    let found = find_set(iv, i.vertices, l);
-    match found {
-        Found::At(v) => all_holders(iv, it, i, InnerVertex(v as u16)).same(l),
-        Found::Nothing => true,
+    match find_set(l.vertices, l.shape.vertices, list) {
+        Some(v) => all_holders(l, InnerVertex(v as u16)) == list,
+        None => true,
     }
 }
 
-// Whether a folder with list l will have no outer key.
-fn insert_free(h: Head, iv: &[u8], it: &[u8], l: Users) -> bool
-    requires { Laid (inner_shape h) it.now iv.now }
-    ensures { result ≡ (eqb h.mode.0 1 && holders_are (layer_of (inner_shape h) it.now iv.now) (set_in l)) }
+// Whether a folder with a list will have no outer key.
+fn insert_free(h: Head, l: &Layer<'_>, list: Users) -> bool
+    requires { l.now.shape.vertices < 65536 }
+    ensures { result ≡ (eqb h.mode.0 1 && holders_are (layer_in l.now) (set_in list)) }
 {
-    if h.mode.0 != 1 {
-        return false;
-    }
-    holders_are(iv, it, inner_shape(h), l)
-}
-
-pub fn judge_insert(
-    h: Head,
-    iv: &[u8],
-    it: &[u8],
-    ov: &[u8],
-    ot: &[u8],
-    rs: &[u8],
-    l: Users,
-    room: usize,
-) -> Judged
-    requires { Ready h (tables iv.now it.now ov.now ot.now rs.now) }
-    ensures { result ≡ judged (inserts (set_in l)) (book_in h (tables iv.now it.now ov.now ot.now rs.now)) room }
-{
-    if !l.below(h.users.0) {
-        return Judged::No(Refusal::NoSuch);
-    }
-    if !l.apart(h.leavers) {
-        return Judged::No(Refusal::HasLeft);
-    }
-    if l.same(Users::empty()) {
-        return Judged::No(Refusal::EmptyList);
-    }
-    if h.resources.0 >= Resources::LIMIT {
-        return Judged::No(Refusal::ResourcesFull);
-    }
-    let free = insert_free(h, iv, it, l);
-    let i = new_rows(iv, h.inner_vertices.0 as usize, l);
-    let s = settled(h, ov, free, OuterVertex(OuterVertex::NONE), l);
-    let a = rows_after(h, i.tokens, i.vertices + i.tokens + 1, s);
-    limits(a, room, plain(free))
-}
-
-// ---- revoke
-
-pub fn judge_revoke(
-    h: Head,
-    iv: &[u8],
-    it: &[u8],
-    ov: &[u8],
-    ot: &[u8],
-    rs: &[u8],
-    r: Resource,
-    u: User,
-    room: usize,
-) -> Judged
-    requires { Ready h (tables iv.now it.now ov.now ot.now rs.now) }
-    ensures { result ≡ judged (revokes r.0 u.0) (book_in h (tables iv.now it.now ov.now ot.now rs.now)) room }
-{
-    if no_such(h, r, u) {
-        return Judged::No(Refusal::NoSuch);
-    }
-    let x = resource_in(rs, h.resources.0 as usize, r.0 as usize);
-    if !x.list.has(u) {
-        return Judged::No(Refusal::NotListed);
-    }
-    let s = lock_rows(h, ov, x.list.without(u), 1);
-    limits(rows_after(h, 0, 0, s), room, plain(false))
+    h.mode.is_delta() && holders_are(l, list)
 }
 
 // ---- grant
 
 // Whether the holders will be the list, whether u comes in, and the holders before.
-fn grant_plan(h: Head, iv: &[u8], it: &[u8], x: ResourceRow, u: User) -> Plan
-    requires laid { Laid (inner_shape h) it.now iv.now }
-    requires inner_bound { (x.inner.0 < h.inner_vertices.0) × (u.0 < people) }
-    ensures { result ≡ grant_plan h.mode.0 (holders (layer_of (inner_shape h) it.now iv.now) x.inner.0) (set_in x.list) u.0 }
+fn grant_plan(h: Head, l: &Layer<'_>, x: ResourceRow, u: User) -> Plan
+    requires { (x.inner.0 < l.now.shape.vertices) × (u.0 < people) }
+    ensures { result ≡ grant_plan h.mode.0 (holders (layer_in l.now) x.inner.0) (set_in x.list) u.0 }
 {
-    let holders = all_holders(iv, it, inner_shape(h), x.inner);
-    let token = !holders.has(u);
-    if h.mode.0 != 1 {
-        return Plan {
-            free: false,
-            token,
-            holders,
-        };
-    }
+    let holders = all_holders(l, x.inner);
     let after = holders.with(u);
-    let free = after.same(x.list.with(u));
     Plan {
-        free,
-        token,
+        free: h.mode.is_delta() && after == x.list.with(u),
+        token: !holders.has(u),
         holders,
     }
 }
@@ -303,90 +245,120 @@ fn grant_part(h: Head, ov: &[u8], rs: &[u8], r: Resource, u: User, x: ResourceRo
     with_neighbours(h, ov, n, p.holders, s)
 }
 
-// A kind 1 token and its order, or none, and the outer part.
-fn grant_after(h: Head, token: bool, p: Part) -> After
-    requires { Few p }
-    ensures { result ≡ after_of h (cond token 1 0) (cond token 1 0) p }
-{
-    if token {
-        return rows_after(h, 1, 1, p);
-    }
-    rows_after(h, 0, 0, p)
-}
+// ---- each request
 
-pub fn judge_grant(
-    h: Head,
-    iv: &[u8],
-    it: &[u8],
-    ov: &[u8],
-    ot: &[u8],
-    rs: &[u8],
-    r: Resource,
-    u: User,
-    room: usize,
-) -> Judged
-    requires { Ready h (tables iv.now it.now ov.now ot.now rs.now) }
-    ensures { result ≡ judged (grants r.0 u.0) (book_in h (tables iv.now it.now ov.now ot.now rs.now)) room }
-{
-    if no_such(h, r, u) {
-        return Judged::No(Refusal::NoSuch);
+impl SoundBook<'_> {
+    pub fn judge_join(&self, room: usize) -> Result<Plan, Refusal>
+        ensures { result ≡ judged joins (book_in self.now.head (tables_of self.now.tables)) room }
+    {
+        let h = self.head;
+        if h.users.0 >= Joined::LIMIT {
+            return Err(Refusal::UsersFull);
+        }
+        if room < 2 {
+            return Err(Refusal::ShortList);
+        }
+        Ok(plain(false))
     }
-    if h.leavers.has(u) {
-        return Judged::No(Refusal::HasLeft);
-    }
-    let x = resource_in(rs, h.resources.0 as usize, r.0 as usize);
-    if x.list.has(u) {
-        return Judged::No(Refusal::Listed);
-    }
-    let p = grant_plan(h, iv, it, x, u);
-    let s = grant_part(h, ov, rs, r, u, x, p);
-    limits(grant_after(h, p.token, s), room, p)
-}
 
-// ---- leave
+    pub fn judge_insert(&self, l: Users, room: usize) -> Result<Plan, Refusal>
+        ensures { result ≡ judged (inserts (set_in l)) (book_in self.now.head (tables_of self.now.tables)) room }
+    {
+        let h = self.head;
+        if !l.below(h.users.0) {
+            return Err(Refusal::NoSuch);
+        }
+        if !l.apart(h.leavers) {
+            return Err(Refusal::HasLeft);
+        }
+        if l == Users::empty() {
+            return Err(Refusal::EmptyList);
+        }
+        if h.resources.0 >= Resources::LIMIT {
+            return Err(Refusal::ResourcesFull);
+        }
+        let free = insert_free(h, &inner_layer(h, &self.tables), l);
+        let i = new_rows(self.tables.inner_vertices, h.inner_vertices.0 as usize, l);
+        let s = settled(
+            h,
+            self.tables.outer_vertices,
+            free,
+            OuterVertex(OuterVertex::NONE),
+            l,
+        );
+        let a = rows_after(h, i.tokens, i.vertices + i.tokens + 1, s);
+        limits(a, room, plain(free))
+    }
 
-pub fn judge_leave(
-    h: Head,
-    iv: &[u8],
-    it: &[u8],
-    ov: &[u8],
-    ot: &[u8],
-    rs: &[u8],
-    u: User,
-    room: usize,
-) -> Judged
-    requires { Ready h (tables iv.now it.now ov.now ot.now rs.now) }
-    ensures { result ≡ judged (leaves u.0) (book_in h (tables iv.now it.now ov.now ot.now rs.now)) room }
-{
-    if u.0 >= h.users.0 {
-        return Judged::No(Refusal::NoSuch);
+    pub fn judge_revoke(&self, r: Resource, u: User, room: usize) -> Result<Plan, Refusal>
+        ensures { result ≡ judged (revokes r.0 u.0) (book_in self.now.head (tables_of self.now.tables)) room }
+    {
+        let h = self.head;
+        exist(h, r, u)?;
+        let x = resource_in(self.tables.resources, h.resources.0 as usize, r.0 as usize);
+        if !x.list.has(u) {
+            return Err(Refusal::NotListed);
+        }
+        let s = lock_rows(h, self.tables.outer_vertices, x.list.without(u), 1);
+        limits(rows_after(h, 0, 0, s), room, plain(false))
     }
-    if h.leavers.has(u) {
-        return Judged::No(Refusal::HasLeft);
+
+    pub fn judge_grant(&self, r: Resource, u: User, room: usize) -> Result<Plan, Refusal>
+        ensures { result ≡ judged (grants r.0 u.0) (book_in self.now.head (tables_of self.now.tables)) room }
+    {
+        let h = self.head;
+        exist(h, r, u)?;
+        if h.leavers.has(u) {
+            return Err(Refusal::HasLeft);
+        }
+        let x = resource_in(self.tables.resources, h.resources.0 as usize, r.0 as usize);
+        if x.list.has(u) {
+            return Err(Refusal::Listed);
+        }
+        let p = grant_plan(h, &inner_layer(h, &self.tables), x, u);
+        let s = grant_part(
+            h,
+            self.tables.outer_vertices,
+            self.tables.resources,
+            r,
+            u,
+            x,
+            p,
+        );
+        // A kind 1 token and its order, or none.
+        let more = usize::from(p.token);
+        limits(rows_after(h, more, more, s), room, p)
     }
-    let p = leave_part(h, ov, rs, u);
-    limits(rows_after(h, 0, 0, p), room, plain(false))
+
+    pub fn judge_leave(&self, u: User, room: usize) -> Result<Plan, Refusal>
+        ensures { result ≡ judged (leaves u.0) (book_in self.now.head (tables_of self.now.tables)) room }
+    {
+        let h = self.head;
+        if u.0 >= h.users.0 {
+            return Err(Refusal::NoSuch);
+        }
+        if h.leavers.has(u) {
+            return Err(Refusal::HasLeft);
+        }
+        let p = leave_part(h, self.tables.outer_vertices, self.tables.resources, u);
+        limits(rows_after(h, 0, 0, p), room, plain(false))
+    }
 }
 
 // The refusals of a request from 1 on, else its plan.
-pub fn judge(
-    h: Head,
-    iv: &[u8],
-    it: &[u8],
-    ov: &[u8],
-    ot: &[u8],
-    rs: &[u8],
-    q: Request,
-    room: usize,
-) -> Judged
-    requires { Ready h (tables iv.now it.now ov.now ot.now rs.now) }
-    ensures { result ≡ judged (request_of q) (book_in h (tables iv.now it.now ov.now ot.now rs.now)) room }
+pub fn judge(h: Head, t: &Tables<'_>, q: Request, room: usize) -> Result<Plan, Refusal>
+    requires { Ready h (tables_of t.now) }
+    ensures { result ≡ judged (request_of q) (book_in h (tables_of t.now)) room }
 {
+    let book = SoundBook {
+        head: h,
+        tables: *t,
+    };
     match q {
-        Request::Join => judge_join(h, iv, it, ov, ot, rs, room),
-        Request::Insert(l) => judge_insert(h, iv, it, ov, ot, rs, l, room),
-        Request::Grant(r, u) => judge_grant(h, iv, it, ov, ot, rs, r, u, room),
-        Request::Revoke(r, u) => judge_revoke(h, iv, it, ov, ot, rs, r, u, room),
-        Request::Leave(u) => judge_leave(h, iv, it, ov, ot, rs, u, room),
+        Request::Join => book.judge_join(room),
+        Request::Insert(l) => book.judge_insert(l, room),
+        Request::Grant(r, u) => book.judge_grant(r, u, room),
+        Request::Revoke(r, u) => book.judge_revoke(r, u, room),
+        Request::Leave(u) => book.judge_leave(u, room),
     }
 }

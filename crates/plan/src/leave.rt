@@ -5,50 +5,33 @@ ghost use Rattle.rules.specs.Sound.{max_resources};
 ghost use Rattle.rules.specs.Bytes.{resources_in};
 ghost use Rattle.layer.specs.Laid.{max_vertices};
 ghost use Rattle.layer.specs.Make.{sets_only};
-ghost use Rattle.layer.specs.Seen.{SeenIn, seen_layer};
+ghost use Rattle.layer.specs.Lent.{layer_then};
 ghost use Rattle.plan.specs.Waiting.{row};
 ghost use Rattle.plan.specs.Judge.{Few};
-ghost use Rattle.plan.specs.Leave.{tally_of, left_in, leave_part};
+ghost use Rattle.plan.specs.Leave.{list_part, left_in, leave_part};
 
 use crate::judge::Part;
-use layer::make::new_seen;
+use layer::laid::Foreseen;
 use layer::seen::Seen;
 use layer::table::resource_in;
 use rules::{Head, Resources};
 use sets::User;
 
-// The rows that lists add to the outer layer, and their re-locks.
-#[derive(Clone, Copy)]
-pub struct Tally {
-    pub vertices: usize,
-    pub tokens: usize,
-    pub locks: usize,
-}
-
 // What resource r adds: nothing where its list does not name the leaver.
-fn leaver_rows(ov: &[u8], rs: &[u8], firsts: &[u16], l: Seen, r: usize) -> Tally
-    requires seen_in { SeenIn l ov.now rs.now firsts.now }
-    requires r_lt_resources { r < l.resources }
-    ensures value { result ≡ tally_of (seen_layer l ov.now rs.now firsts.now) (row (resources_in l.resources rs.now) r).list l.leaver.0 }
-    ensures vertices_bound { (result.vertices ≤ 1) × (result.tokens ≤ people) × (result.locks ≤ 1) }
+fn leaver_rows(l: &Foreseen<'_>, r: usize) -> Part
+    requires { r < l.now.seen.resources }
+    ensures value { result ≡ list_part (layer_then l.now) (row (resources_in l.now.seen.resources l.now.resources.now) r).list l.now.seen.leaver.0 }
+    ensures vertices_bound { (result.vertices ≤ 1) × (result.tokens ≤ people) × (result.orders ≤ people + 2) }
 {
-    let x = resource_in(rs, l.resources, r);
-    if !x.list.has(l.leaver) {
-        return Tally {
-            vertices: 0,
-            tokens: 0,
-            locks: 0,
-        };
+    let u = l.seen.leaver;
+    let x = resource_in(l.resources, l.seen.resources, r);
+    if !x.list.has(u) {
+        return Part::NOTHING;
     }
-    let o = new_seen(ov, rs, firsts, l, x.list.without(l.leaver));
-    Tally {
-        vertices: o.vertices,
-        tokens: o.tokens,
-        locks: 1,
-    }
+    Part::locking(l.new_rows(x.list.without(u)), 1)
 }
 
-// New vertices at most: one for each resource.
+// New vertices at most: one for each resource. Their places are an array and not a Vec: nothing here is on a heap.
 const PLACES: usize = Resources::LIMIT as usize;
 
 // The outer part of a leave of u. Place i of `firsts` has the first resource that new vertex i is made for. The place behind the last is written each time, and counts where a vertex is new.
@@ -61,27 +44,23 @@ pub fn leave_part(h: Head, ov: &[u8], rs: &[u8], u: User) -> Part
     let n = h.resources.0 as usize;
     let vertices = h.outer_vertices.0 as usize;
     let mut firsts = [0u16; PLACES];
-    let mut new: usize = 0;
-    let mut tokens: usize = 0;
-    let mut locks: usize = 0;
-    let mut r: usize = 0;
-    while r < n {
-        let l = Seen {
-            vertices,
-            new,
-            resources: n,
-            leaver: u,
+    let mut all = Part::NOTHING;
+    for r in 0..n {
+        let new = all.vertices;
+        let l = Foreseen {
+            vertices: ov,
+            resources: rs,
+            firsts: &firsts,
+            seen: Seen {
+                vertices,
+                new,
+                resources: n,
+                leaver: u,
+            },
         };
-        let t = leaver_rows(ov, rs, &firsts, l, r);
+        let more = leaver_rows(&l, r);
         firsts[new] = r as u16;
-        new += t.vertices;
-        tokens += t.tokens;
-        locks += t.locks;
-        r += 1;
+        all = all + more;
     }
-    Part {
-        vertices: new,
-        tokens,
-        orders: new + tokens + locks,
-    }
+    all
 }

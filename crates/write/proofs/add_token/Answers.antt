@@ -3,9 +3,7 @@ use native.Mathlib.Omega.{arith}
 use Rattle.write.proofs.WriteLaws.{token-added}
 use Rattle.write.proofs.add_token.Goals as goal
 
-pub returns : goal.returns
-returns c =
-    record {
-      token_added = token-added c.args.n c.args.own.0 c.args.to.0 c.args.it.now _ c.requires.0 (omega (arith, c.ranges)) (omega (arith, c.ranges)) c.put_token.ensures;
-      orders_after = c.put_order.ensures;
-    }
+pub returns-clause-token_added : goal.returns-clause-token_added
+returns-clause-token_added c =
+    let a = c.args in
+    token-added a.n a.own.0 a.to.0 a.it.now _ c.requires.0 (omega (arith, c.ranges)) (omega (arith, c.ranges)) c.put_token.ensures

@@ -1,4 +1,5 @@
 -- `write::relock_waiting` meets its contract: of the first i resources those that wait are re-locked. Assumes nothing.
+use Prim.Native.Nat.{◌<◌}
 use mathlib.Core.Path.{◌≡◌}
 use native.Mathlib.Omega.{arith}
 use Rattle.write.proofs.RelockLaws.{run_none, same-run, run-no, run-yes, run_long, run_room, run-all}
@@ -8,44 +9,34 @@ use Rattle.write.proofs.relock_waiting.Goals.{then-waits, else-waits}
 pub loop-i-init : goal.loop-i-init
 loop-i-init c = run_none _ _ _ _ _ _ _ _
 
-pub waits-requires : goal.waits-requires
-waits-requires c = omega (arith, c.loop-i.invariant.table.same)
-
-pub overflow_cast-i : goal.overflow_cast-i
-overflow_cast-i c = omega arith
-
 pub relock-requires : goal.relock-requires
 relock-requires c =
+    let there : c.loop-i.i < c.args.n = omega arith in
     omega (
       arith,
       c.loop-i.invariant.table.same,
       run_long _ _ _ _ _ _ _ _ c.loop-i.invariant c.requires.list_in_bounds,
-      run_room _ _ _ _ _ _ _ _ c.loop-i.invariant c.loop-i-test.true c.waits.ensures c.if-waits.true c.requires.list_in_bounds,
+      run_room _ _ _ _ _ _ _ _ c.loop-i.invariant there c.waits.ensures c.if-waits.true c.requires.list_in_bounds,
     )
 
 pub overflow_add-next : goal.overflow_add-next
 overflow_add-next c =
+    let there : c.loop-i.i < c.args.n = omega arith in
     omega (
       arith,
       c.well_formed,
-      run_room _ _ _ _ _ _ _ _ c.loop-i.invariant c.loop-i-test.true c.waits.ensures c.if-waits.true c.requires.list_in_bounds,
+      run_room _ _ _ _ _ _ _ _ c.loop-i.invariant there c.waits.ensures c.if-waits.true c.requires.list_in_bounds,
     )
-
-pub overflow_add-i : goal.overflow_add-i
-overflow_add-i c = omega arith
-
-pub loop-i-smaller : goal.loop-i-smaller
-loop-i-smaller c = omega arith
 
 pub loop-i-preserved : goal.loop-i-preserved
 loop-i-preserved c =
-    let in-turn = c.loop-i-test.true in
+    let there : c.loop-i.i < c.args.n = omega arith in
     elim c.if-waits.branch [
       | then-waits w ↦
           same-run _ _ _ _ _ _ _ _ w.rs-is w.orders-is w.next-is
-          (run-yes _ _ _ _ _ _ _ _ c.loop-i.invariant in-turn c.waits.ensures w.if-waits.true c.requires.list_in_bounds w.relock.ensures.resources w.relock.ensures.orders_after)
+          (run-yes _ _ _ _ _ _ _ _ c.loop-i.invariant there c.waits.ensures w.if-waits.true c.requires.list_in_bounds w.relock.ensures.resources w.relock.ensures.orders_after)
       | else-waits w ↦
-          same-run _ _ _ _ _ _ _ _ w.rs-is w.orders-is w.next-is (run-no _ _ _ _ _ _ _ _ c.loop-i.invariant in-turn c.waits.ensures w.if-waits.false)
+          same-run _ _ _ _ _ _ _ _ w.rs-is w.orders-is w.next-is (run-no _ _ _ _ _ _ _ _ c.loop-i.invariant there c.waits.ensures w.if-waits.false)
     ]
 
 pub shape_of-rs : goal.shape_of-rs

@@ -2,17 +2,8 @@
 use Rattle.apply.proofs.WorksLaws.{settle-free, settle-lock}
 use Rattle.apply.proofs.step.settle.Goals as goal
 
-pub unlock-requires : goal.unlock-requires
-unlock-requires c =
-    c.requires.unlocks c.if-free.true
+pub returns-then-free-clause-works : goal.returns-then-free-clause-works
+returns-then-free-clause-works c = settle-free _ _ _ _ c.if-free.true c.unlock.ensures.works
 
-pub returns-then-free : goal.returns-then-free
-returns-then-free c = λ iv it.
-    settle-free _ _ _ _ c.if-free.true (c.unlock.ensures iv it _ _)
-
-pub lock_with-requires : goal.lock_with-requires
-lock_with-requires c = c.requires.locks c.if-free.false
-
-pub returns : goal.returns
-returns c = λ iv it.
-    settle-lock _ _ _ _ c.if-free.false (c.lock_with.ensures iv it)
+pub returns-clause-works : goal.returns-clause-works
+returns-clause-works c = settle-lock _ _ _ _ c.if-free.false c.lock_with.ensures.works

@@ -1,28 +1,12 @@
--- `layer::table::find_set` meets its contract. The loop's invariant: none of the sets before i is s. Assumes nothing.
-use native.Mathlib.Omega.{arith}
+-- `layer::table::find_set` meets its contract. Assumes nothing.
+use Rattle.std.proofs.Common.{rules}
+use Rattle.sets.specs.Words.{set_in}
+use Rattle.rules.specs.Bytes.{sets_in}
+use Rattle.layer.specs.Laid.{is_set}
 use Rattle.layer.proofs.Read.{length-sets}
-use Rattle.layer.proofs.Search.{row_here, row_on, row-over}
+use Rattle.layer.proofs.Search.{placed_first}
 use Rattle.layer.proofs.table.find_set.Goals as goal
 
-pub loop-i-init : goal.loop-i-init
-loop-i-init c = omega arith
-
-pub set_of-requires : goal.set_of-requires
-set_of-requires c = omega arith
-
-pub returns-then-same : goal.returns-then-same
-returns-then-same c =
-    row_here _ _ _ 0 c.loop-i.invariant (omega arith) c.set_of.ensures c.same.ensures c.if-same.true
-
-pub overflow_add-i : goal.overflow_add-i
-overflow_add-i c = omega arith
-
-pub loop-i-smaller : goal.loop-i-smaller
-loop-i-smaller c = omega arith
-
-pub loop-i-preserved : goal.loop-i-preserved
-loop-i-preserved c =
-    row_on _ _ _ 0 c.loop-i.invariant (omega arith) c.set_of.ensures c.same.ensures (length-sets _ _) c.if-same.false
-
 pub returns : goal.returns
-returns c = row-over _ _ _ c.loop-i.invariant c.loop-i-test.false
+returns c =
+    placed_first _ (is_set (set_in c.args.s)) (sets_in c.args.n c.args.vertices.now) 0 (length-sets c.args.n c.args.vertices.now) c.position.ensures.ran (λ i b q k. search rules) (λ i b q l k. search rules)

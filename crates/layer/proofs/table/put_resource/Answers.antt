@@ -10,7 +10,7 @@ use Rattle.layer.proofs.table.put_resource.Goals as goal
 pub returns : goal.returns
 returns c =
     let at = c.args.row * (bytes + 4) in
-    c.put2-2.ensures
+    c.put-3.ensures
     ∙ ap (stored (at + bytes + 2) (bytes_of 2 c.args.x.outer.0))
-    (c.put2.ensures ∙ ap (stored (at + bytes) (bytes_of 2 c.args.x.inner.0)) c.write.ensures)
+    (c.put-2.ensures ∙ ap (stored (at + bytes) (bytes_of 2 c.args.x.inner.0)) c.put.ensures)
     ∙ resource-put at (resource_is c.args.x) c.args.resources.now c.requires

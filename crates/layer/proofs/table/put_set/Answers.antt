@@ -4,4 +4,4 @@ use Rattle.layer.proofs.table.put_set.Goals as goal
 
 pub returns : goal.returns
 unfolding set_row
-returns c = c.write.ensures
+returns c = c.put.ensures

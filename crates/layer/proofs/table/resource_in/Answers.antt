@@ -10,6 +10,6 @@ pub returns : goal.returns
 returns c =
     let t = c.args.resources.now in
     let at = c.args.row * (bytes + 4) in
-    ap (λ (x : ℕ). resource x c.get2.result c.get2-2.result) c.read-list.ensures
-    ∙ ap₂ (resource (cell bytes at t)) c.get2.ensures c.get2-2.ensures
+    ap (λ (x : ℕ). resource x c.get.result c.get-2.result) c.get-list.ensures
+    ∙ ap₂ (resource (cell bytes at t)) c.get.ensures c.get-2.ensures
     ∙ sym (resource-at c.args.n t c.args.row c.requires.1)

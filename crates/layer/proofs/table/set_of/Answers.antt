@@ -5,4 +5,4 @@ use Rattle.layer.proofs.table.set_of.Goals as goal
 
 pub returns : goal.returns
 returns c =
-    c.read.ensures ∙ sym (set_at c.args.n c.args.vertices.now c.args.v c.requires.1)
+    c.get.ensures ∙ sym (set_at c.args.n c.args.vertices.now c.args.v c.requires.1)

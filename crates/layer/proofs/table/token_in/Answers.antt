@@ -1,49 +1,18 @@
 -- `layer::table::token_in` meets its contract. Assumes nothing.
 use mathlib.Core.Path.{sym, ap₂, ◌∙◌}
-use Prim.Native.Nat.{ℕ, ◌+◌, ◌*◌, ◌≤◌}
+use Prim.Native.Nat.{ℕ, ◌+◌, ◌*◌}
 use native.Mathlib.Omega.{arith}
 use lib.ListN.{get_or}
 use Rattle.rules.specs.Layer.{token}
 use Rattle.layer.proofs.Read.{token-4, token-5}
-use Rattle.rows.proofs.Fill.{row_within}
 use Rattle.layer.proofs.table.token_in.Goals as goal
-
-pub overflow_mul-at : goal.overflow_mul-at
-overflow_mul-at c =
-    let within : c.args.row * c.args.width + c.args.width ≤ c.args.n * c.args.width = row_within c.args.row c.args.n c.args.width c.requires.3 in
-    omega (arith, within, c.requires)
-
-pub get2-from-requires : goal.get2-from-requires
-get2-from-requires c =
-    let within : c.args.row * c.args.width + c.args.width ≤ c.args.n * c.args.width = row_within c.args.row c.args.n c.args.width c.requires.3 in
-    omega (arith, within, c.requires)
-
-pub overflow_add-at : goal.overflow_add-at
-overflow_add-at c =
-    let within : c.args.row * c.args.width + c.args.width ≤ c.args.n * c.args.width = row_within c.args.row c.args.n c.args.width c.requires.3 in
-    omega (arith, within, c.requires)
-
-pub get2-to-requires : goal.get2-to-requires
-get2-to-requires c =
-    let within : c.args.row * c.args.width + c.args.width ≤ c.args.n * c.args.width = row_within c.args.row c.args.n c.args.width c.requires.3 in
-    omega (arith, within, c.requires)
-
-pub overflow_add-result : goal.overflow_add-result
-overflow_add-result c =
-    let within : c.args.row * c.args.width + c.args.width ≤ c.args.n * c.args.width = row_within c.args.row c.args.n c.args.width c.requires.3 in
-    omega (arith, within, c.requires)
-
-pub bounds-tokens-at : goal.bounds-tokens-at
-bounds-tokens-at c =
-    let within : c.args.row * c.args.width + c.args.width ≤ c.args.n * c.args.width = row_within c.args.row c.args.n c.args.width c.requires.3 in
-    omega (arith, within, c.requires)
 
 pub returns-then-width-eq-WIDTH : goal.returns-then-width-eq-WIDTH
 returns-then-width-eq-WIDTH c =
-    ap₂ (λ (x y : ℕ). token x y (get_or c.args.tokens.now (c.args.row * c.args.width + 4) 0)) c.get2-from.ensures c.get2-to.ensures
+    ap₂ (λ (x y : ℕ). token x y (get_or c.args.tokens.now (c.args.row * c.args.width + 4) 0)) c.get-from.ensures c.get-to.ensures
     ∙ sym (token-5 c.args.width c.args.n c.args.tokens.now c.args.row c.requires.2 c.requires.3 c.if-width-eq-WIDTH.true)
 
 pub returns : goal.returns
 returns c =
-    ap₂ (λ (x y : ℕ). token x y 0) c.get2-from.ensures c.get2-to.ensures
+    ap₂ (λ (x y : ℕ). token x y 0) c.get-from.ensures c.get-to.ensures
     ∙ sym (token-4 c.args.width c.args.n c.args.tokens.now c.args.row c.requires.3 (omega (arith, c.requires)))

@@ -3,10 +3,7 @@ use Rattle.layer.specs.Laid.{resource_is}
 use Rattle.plan.proofs.PartLaws.{grant-parts}
 use Rattle.plan.proofs.judge.grant_part.Goals as goal
 
-pub returns : goal.returns
-returns c =
+pub returns-clause-value : goal.returns-clause-value
+returns-clause-value c =
     let a = c.args in
-    record {
-      value = grant-parts _ _ _ _ _ (resource_is a.x) a.p c.with.ensures c.settled-s.ensures.value c.waiting-n.ensures.value c.with_neighbours.ensures.value;
-      few = c.with_neighbours.ensures.few;
-    }
+    grant-parts _ _ _ _ _ (resource_is a.x) a.p c.with.ensures c.settled-s.ensures.value c.waiting-n.ensures.value c.with_neighbours.ensures.value

@@ -1,25 +1,12 @@
 -- `plan::judge::settled` meets its contract. Assumes nothing.
-use native.Mathlib.Omega.{arith}
-use Rattle.plan.proofs.PartLaws.{settled-lock, settled-bare, settled-free}
+use Rattle.plan.proofs.PartLaws.{settled-bare, settled-free, settled-lock}
 use Rattle.plan.proofs.judge.settled.Goals as goal
 
-pub returns-then-not-free : goal.returns-then-not-free
-returns-then-not-free c =
-    record {
-      value = settled-lock c.args.free _ _ _ (c.if-not-free.true) c.lock_rows.ensures.value;
-      vertices_bound = omega (arith, c.lock_rows.ensures.vertices_bound);
-    }
+pub returns-then-not-free-clause-value : goal.returns-then-not-free-clause-value
+returns-then-not-free-clause-value c = settled-lock c.args.free _ _ _ c.if-not-free.true c.lock_rows.ensures.value
 
-pub returns-then-outer-eq-NONE : goal.returns-then-outer-eq-NONE
-returns-then-outer-eq-NONE c =
-    record {
-      value = settled-bare c.args.free _ _ _ (c.if-not-free.false) c.if-outer-eq-NONE.true;
-      vertices_bound = omega arith;
-    }
+pub returns-then-outer-eq-NONE-clause-value : goal.returns-then-outer-eq-NONE-clause-value
+returns-then-outer-eq-NONE-clause-value c = settled-bare c.args.free _ _ _ c.if-not-free.false c.if-outer-eq-NONE.true
 
-pub returns-else-outer-eq-NONE : goal.returns-else-outer-eq-NONE
-returns-else-outer-eq-NONE c =
-    record {
-      value = settled-free c.args.free _ _ _ (c.if-not-free.false) c.if-outer-eq-NONE.false;
-      vertices_bound = omega arith;
-    }
+pub returns-clause-value : goal.returns-clause-value
+returns-clause-value c = settled-free c.args.free _ _ _ c.if-not-free.false c.if-outer-eq-NONE.false

@@ -1,18 +1,9 @@
 -- `plan::judge::with_neighbours` meets its contract. Assumes nothing.
-use native.Mathlib.Omega.{arith}
 use Rattle.plan.proofs.PartLaws.{none-waiting, some-waiting}
 use Rattle.plan.proofs.judge.with_neighbours.Goals as goal
 
-pub returns-then-n-eq0 : goal.returns-then-n-eq0
-returns-then-n-eq0 c =
-    record {
-      value = none-waiting _ _ _ _ c.if-n-eq0.true;
-      few = omega (arith, c.requires);
-    }
+pub returns-then-n-eq0-clause-value : goal.returns-then-n-eq0-clause-value
+returns-then-n-eq0-clause-value c = none-waiting _ _ _ _ c.if-n-eq0.true
 
-pub returns : goal.returns
-returns c =
-    record {
-      value = some-waiting _ _ _ _ c.if-n-eq0.false c.lock_rows-o.ensures.value;
-      few = omega (arith, c.requires, c.lock_rows-o.ensures.vertices_bound);
-    }
+pub returns-clause-value : goal.returns-clause-value
+returns-clause-value c = some-waiting _ _ _ _ c.if-n-eq0.false c.lock_rows.ensures.value c.add.ensures

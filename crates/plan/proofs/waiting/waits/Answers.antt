@@ -9,7 +9,7 @@ returns-then-i-r c = itself _ _ _ _ _ c.if-i-r.true
 
 pub returns-then-x-inner : goal.returns-then-x-inner
 returns-then-x-inner c =
-    c.same.ensures
+    c.eq.ensures
     ∙ same-vertex _ _ _ _ _ c.if-i-r.false (resource_is c.resource_in-x.result) c.resource_in-x.ensures c.if-x-inner.true
 
 pub returns-else-x-inner : goal.returns-else-x-inner

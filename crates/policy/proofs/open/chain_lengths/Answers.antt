@@ -1,25 +1,19 @@
 -- `policy::open::chain_lengths` meets its contract. Assumes nothing.
-use Rattle.layer.specs.Laid.{resource_is}
-use Rattle.plan.proofs.ReadyLaws.{sizes}
-use Rattle.policy.proofs.OpenLaws.{user-below, inner-kept, outer-kept, inner-there, outer-names, lengths-are}
+use native.Mathlib.Omega.{arith}
+use Rattle.policy.proofs.OpenLaws.{outer-names, inner-short, outer-short, lengths-are}
 use Rattle.policy.proofs.open.chain_lengths.Goals as goal
 
-pub resource_in-x-requires : goal.resource_in-x-requires
-resource_in-x-requires c = ((sizes _ _ _ _ _ _ c.requires.ready).room.resources, c.requires.there)
+pub outer_length-outer-requires-clause-u_lt_people : goal.outer_length-outer-requires-clause-u_lt_people
+outer_length-outer-requires-clause-u_lt_people c = (omega arith, outer-names c.keys_of-k.ensures c.requires)
 
-pub inner_length-inner-requires : goal.inner_length-inner-requires
-inner_length-inner-requires c =
-    record {
-      kept = inner-kept _ _ _ _ _ _ c.requires.ready c.inner_shape.ensures;
-      v_lt_vertices = (inner-there _ _ _ _ _ _ c.requires.ready c.args.u.0 _ c.requires.there {x = resource_is c.resource_in-x.result} c.resource_in-x.ensures c.inner_shape.ensures, user-below _ _ _ _ _ _ c.requires.ready c.requires.user);
-    }
+pub overflow_cast-result : goal.overflow_cast-result
+overflow_cast-result c = omega (arith, inner-short c.keys_of-k.ensures c.requires)
 
-pub outer_length-outer-requires : goal.outer_length-outer-requires
-outer_length-outer-requires c =
-    record {
-      kept = outer-kept _ _ _ _ _ _ c.requires.ready c.outer_shape.ensures;
-      u_lt_people = (user-below _ _ _ _ _ _ c.requires.ready c.requires.user, outer-names _ _ _ _ _ _ _ _ c.requires {x = resource_is c.resource_in-x.result} c.resource_in-x.ensures c.outer_shape.ensures);
-    }
+pub overflow_cast-result-2 : goal.overflow_cast-result-2
+overflow_cast-result-2 c = omega (arith, outer-short c.keys_of-k.ensures c.requires)
 
-pub returns : goal.returns
-returns c = lengths-are _ _ _ _ _ _ _ _ c.requires {x = resource_is c.resource_in-x.result} c.resource_in-x.ensures c.inner_shape.ensures c.outer_shape.ensures c.inner_length-inner.ensures c.outer_length-outer.ensures
+pub returns-clause-value : goal.returns-clause-value
+returns-clause-value c = lengths-are c.keys_of-k.ensures c.requires c.inner_length-inner.ensures c.outer_length-outer.ensures
+
+pub returns-clause-few : goal.returns-clause-few
+returns-clause-few c = (omega (arith, inner-short c.keys_of-k.ensures c.requires), omega (arith, outer-short c.keys_of-k.ensures c.requires))

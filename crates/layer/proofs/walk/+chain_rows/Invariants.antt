@@ -1,8 +1,0 @@
--- `layer::walk::chain_rows`, which calls itself. The measure is the size of the vertex's set.
-use Rattle.sets.specs.Sets.{size}
-use Rattle.rules.specs.Layer.{set_of}
-use Rattle.layer.specs.Laid.{layer_of}
-use Rattle.layer.proofs.walk.+chain_rows.Given as goal
-
-abbrev pub decreases-chain_rows : goal.decreases-chain_rows
-decreases-chain_rows l = size (set_of (layer_of l.l l.tokens.now l.vertices.now) l.v)
