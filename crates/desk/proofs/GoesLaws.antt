@@ -18,10 +18,10 @@ use Rattle.std.specs.Prelude.{Option, Some, None}
 use Rattle.lines.proofs.ProgramLaws.{behind, closed-taken, long-asks, long-first}
 use Rattle.rules.specs.Runs.{book_of}
 use Rattle.theorems.proofs.RunLaws.{fresh, fresh-book}
-use Rattle.desk.specs.Input.{between, start, pending, Whole, Comes, no_line, lacks_line, More, Got, ReadSoFar, FirstRead, taking, mode_taken}
+use Rattle.desk.specs.Input.{between, start, pending, Whole, Comes, no_line, lacks_line, Got, ReadSoFar, FirstRead, taking, mode_taken}
 use Rattle.desk.specs.Block.{numbers_of, row_for, most_of, rows_of, line_count, Takes, Reads, rows_answers, rows_leave, Answers}
 use Rattle.desk.specs.Output.{Gathered}
-use Rattle.desk.specs.Turn.{BlockAnswered, Desk, desk, still, Begins, Follows, stays, reads, Finished, Goes, Run, rests, Ran, Runs, Awaits}
+use Rattle.desk.specs.Turn.{Desk, desk, still, Begins, Follows, stays, reads, Finished, Goes, Run, rests, Ran, Runs, Awaits}
 use Rattle.desk.specs.declared.State.{State}
 use Rattle.desk.specs.declared.block.Block.{Block}
 use Rattle.desk.specs.declared.input.Unread.{Unread}

@@ -6,7 +6,7 @@ use mathlib.Core.Bool.{Bool, true, false, cond}
 use mathlib.Core.List.{List, [], ◌∷◌, ◌++◌, append_assoc}
 use native.Mathlib.Omega.{arith}
 use lib.Dec.{ltb}
-use lib.ListN.{length, take, drop, get_or, length-append, length-take, length-drop}
+use lib.ListN.{length, take, drop, length-append, length-take, length-drop}
 use lib.Seq.{length-take-le, take_at}
 use borrow.Author.Tests.{ltb-true}
 use Rattle.rows.specs.Number.{stored}
@@ -15,10 +15,9 @@ use Rattle.lines.specs.Answer.{answer_text, room_for, writing, Written, put_answ
 use Rattle.lines.specs.Request.{same, modes, mode_of, first_line}
 use Rattle.rules.specs.declared.Mode.{Mode}
 use Rattle.lines.specs.declared.request.Asked.{Asked}
-use Rattle.std.specs.Prelude.{Option, Some, None, IsSome}
+use Rattle.std.specs.Prelude.{Option, Some, None, IsSome, Result, Ok, Err, IfOk}
 use Rattle.std.specs.Option.{unwrap_or}
 use Rattle.desk.specs.Block.{malformed, row_for, numbers_of, most_of, most_in}
-use Rattle.desk.specs.Output.{counts}
 
 pub some≢none : {A : Type 0} {x : A} → Some x ≡ None → ⊥
 some≢none e = let z : ◌≡◌ {A = ℕ} 0 1 = cc in omega arith
@@ -26,6 +25,11 @@ some≢none e = let z : ◌≡◌ {A = ℕ} 0 1 = cc in omega arith
 pub some-by : {A : Type 0} (o : Option A) → (o ≡ None → ⊥) → IsSome o
 some-by None h = absurd (h refl)
 some-by (Some x) h = refl
+
+-- two facts of what a call answers
+pub ok-both : {T E : Type 0} (r : Result T E) (P Q S : T → Type 0) → ((x : T) → P x → Q x → S x) → IfOk r P → IfOk r Q → IfOk r S
+ok-both (Ok x) P Q S f p q = f x p q
+ok-both (Err e) P Q S f p q = tt
 
 -- what is stored at a place within a list ends within the list that is left
 pub stored-within : (at : ℕ) (bs t : List ℕ) → at ≤ length t → at + length bs ≤ length (stored at bs t)

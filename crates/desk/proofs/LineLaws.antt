@@ -4,14 +4,13 @@ use Prim.Native.Nat.{ℕ, zero, suc, ◌+◌, ◌*◌, ◌-◌, ◌≤◌, ◌<�
 use mathlib.Core.Path.{◌≡◌, refl, sym, ap, ap₂, subst, ◌∙◌}
 use mathlib.Core.Bool.{Bool, true, false, cond}
 use mathlib.Core.List.{List, [], ◌∷◌, ◌++◌, append_assoc, append-nil}
-use native.Mathlib.Numerals.{add-one}
 use native.Mathlib.Omega.{arith}
 use lib.Dec.{eqb, leb, ltb}
-use lib.ListN.{length, take, drop, get_or, set, length-drop}
-use lib.Seq.{take-nil, take-take, take-suc, drop-drop, get_or-drop, length-take-le}
+use lib.ListN.{length, take, drop, length-drop}
+use lib.Seq.{take-nil, take-take, drop-drop, length-take-le}
 use borrow.Author.Tests.{le-leb, lt-leb, ne_eqb, ltb-true, ltb-false}
 use Rattle.rows.specs.Number.{stored}
-use Rattle.rows.proofs.Laws.{stored-add, stored-first, stored-rest, length-stored}
+use Rattle.rows.proofs.Laws.{stored-first}
 use Rattle.rules.specs.Lists.{first}
 use Rattle.lines.specs.Request.{longer, line_asks, first_line}
 use Rattle.std.specs.Prelude.{Option, Some, None, position}
@@ -22,7 +21,8 @@ use Rattle.lines.specs.Program.{newline, lines_in, span}
 use Rattle.desk.specs.Input.{between, Within, too_long, Keeps, taking, mode_taken}
 use Rattle.desk.specs.declared.input.Unread.{Unread}
 use Rattle.desk.specs.Block.{row_for, numbers_of, most_of, rows_of, line_count, Takes}
-use Rattle.lines.proofs.Passed.{first_is}
+use Rattle.std.specs.List.{position_or_len}
+use Rattle.std.proofs.lemmas.List.Recursion.{is_position_or_len}
 use Rattle.desk.proofs.Laws.{some≢none}
 use Rattle.desk.proofs.PrintLaws.{taken-stored}
 
@@ -176,9 +176,13 @@ to-front input from to now o i e =
 
 -- ---- where the next line ends
 
+first_is : (xs : List ℕ) → first newline xs ≡ position_or_len newline xs
+unfolding first
+first_is xs = is_position_or_len (first newline) newline refl (λ x ys. ap (λ (n : ℕ). cond (newline x) 0 n) (omega arith)) xs
+
 module _ (xs : List ℕ) where
   found : position newline xs ≡ cond (ltb (first newline xs) (length xs)) (Some (first newline xs)) None
-  found = ap (λ (n : ℕ). cond (ltb n (length xs)) (Some n) None) (sym (first_is newline xs))
+  found = ap (λ (n : ℕ). cond (ltb n (length xs)) (Some n) None) (sym (first_is xs))
 
   pub end-found : {k : ℕ} → Some k ≡ position newline xs → (k ≡ first newline xs) × (k < length xs)
   end-found {k} e = go (ltb (first newline xs) (length xs)) refl (e ∙ found)

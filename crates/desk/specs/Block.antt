@@ -1,10 +1,10 @@
 -- The lines that one call serves: their request rows, and the most order rows that they may need.
 -- Assumes nothing.
-use Rattle.std.specs.Prelude.{ℕ, zero, suc, ◌+◌, ◌*◌, ◌-◌, ◌/◌, ◌%◌, ◌≤◌, ◌≡◌, Bool, true, false, cond, Option, Some, None, List, [], ◌∷◌, ◌++◌, eqb, leb, length, take}
+use Rattle.std.specs.Prelude.{ℕ, zero, suc, ◌+◌, ◌*◌, ◌-◌, ◌/◌, ◌%◌, ◌≤◌, ◌≡◌, Bool, true, false, cond, Option, Some, None, Result, Ok, Err, List, [], ◌∷◌, ◌++◌, eqb, leb, length, take}
 use Rattle.rules.specs.Book.{Book}
 use Rattle.rules.specs.Bytes.{Tables}
+use Rattle.rules.specs.declared.Refusal.{Refusal}
 use Rattle.rules.specs.declared.Served.{Served}
-use Rattle.rules.specs.declared.Served.TheVariants.{Done, No}
 use Rattle.plan.specs.Judge.{Ready}
 use Rattle.desk.specs.Input.{between}
 use Rattle.desk.specs.Output.{most_orders, counts, never_ten, never_more}
@@ -113,12 +113,12 @@ pub record Enough (requests answers orders : List ℕ) : Type 0 where
   pub room : most_in requests ≤ length orders / 3
 
 -- the requests were served, and the book is sound
-abbrev pub Serves : Served → Tables → Type 0
-Serves (Done h used) t = Ready h t
-Serves (No r) t = ⊥
+abbrev pub Serves : Result Served Refusal → Tables → Type 0
+Serves (Ok s) t = Ready s.head t
+Serves (Err r) t = ⊥
 
 -- the answer rows of a block, and the order list
-pub record Answered (s : Served) (t : Tables) (answers orders : List ℕ) : Type 0 where
+pub record Answered (s : Result Served Refusal) (t : Tables) (answers orders : List ℕ) : Type 0 where
   pub serves : Serves s t
   pub within : counts answers * 3 ≤ length orders
   pub never : never_ten answers ≡ true

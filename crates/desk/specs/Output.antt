@@ -1,6 +1,6 @@
 -- What the output buffer holds and how far it is filled, and the order rows that answer rows count.
 -- Assumes nothing.
-use Rattle.std.specs.Prelude.{ℕ, ◌+◌, ◌*◌, ◌≤◌, ◌<◌, ◌≡◌, Bool, true, false, ◌&&◌, not, cond, Option, Some, None, List, [], ◌∷◌, eqb, leb, length, take, drop, get_or}
+use Rattle.std.specs.Prelude.{ℕ, ◌+◌, ◌*◌, ◌<◌, ◌≡◌, Bool, true, ◌&&◌, not, cond, Option, Some, None, List, [], ◌∷◌, eqb, leb, length, take, drop, get_or}
 use Rattle.rows.specs.Number.{stored, joined}
 use Rattle.lines.specs.Answer.{answer_text, room_for}
 

@@ -1,7 +1,7 @@
 -- What holds when the program starts to answer, and between two turns: the tables hold a sound book, and the buffers' parts lie within them. And what a turn
 -- does with the input and the output, so that all turns together print what the program's definition says.
 -- Assumes nothing.
-use Rattle.std.specs.Prelude.{ℕ, ◌≤◌, ◌<◌, Bool, true, false, cond, not, List, [], ◌++◌, ◌≡◌, length, take, drop}
+use Rattle.std.specs.Prelude.{ℕ, ◌≤◌, ◌<◌, Bool, true, false, cond, List, [], ◌++◌, ◌≡◌, length, take, drop}
 use Rattle.rules.specs.Book.{Book}
 use Rattle.rules.specs.Bytes.{Tables, book_in}
 use Rattle.rules.specs.declared.Head.{Head}
@@ -11,7 +11,6 @@ use Rattle.desk.specs.Input.{Within, pending, kept, Whole, Comes}
 use Rattle.desk.specs.Block.{Answers}
 use Rattle.desk.specs.Output.{longest}
 use Rattle.desk.specs.declared.State.{State}
-use Rattle.desk.specs.declared.input.Unread.{Unread}
 
 -- what a state holds: the book, the answers that are not yet written out, the input that is not yet taken and whether it is the last
 pub record Desk : Type 0 where

@@ -1,7 +1,7 @@
 // The lines that one call serves, as request rows.
 ghost use Rattle.std.specs.Prelude.{◌≡◌, ◌+◌, ◌*◌, ◌≤◌, length, take};
 ghost use Rattle.rows.specs.Number.{stored};
-ghost use Rattle.rules.specs.Bytes.{tables};
+ghost use Rattle.rules.specs.Bytes.{tables_mut, SameTables};
 ghost use Rattle.rules.specs.Calls.{serving, serve_call};
 ghost use Rattle.plan.specs.Judge.{Ready};
 ghost use Rattle.lines.specs.Request.{line_asks};
@@ -11,7 +11,7 @@ ghost use Rattle.desk.specs.Block.{row_for, numbers_of, most_of, most_in, Reads,
 use crate::input::{Unread, line_end};
 use lines::request::{Asked, read_line};
 use policy::serve::{REQUEST_WIDTH, serve};
-use rules::{Head, Served};
+use rules::{Head, RequestKind, Served, TablesMut};
 
 // At most so many lines.
 pub const BLOCK: usize = 128;
@@ -29,14 +29,14 @@ pub const MALFORMED: u64 = 14;
 fn most_rows(kind: u64) -> usize
     ensures { result ≡ most_of kind }
 {
-    match kind {
-        0 => 2,
-        1 => 132,
-        2 => 385,
-        3 => 65,
-        4 => 126,
-        5 => MOST,
-        _ => 0,
+    match RequestKind::try_from(kind) {
+        Ok(RequestKind::Join) => 2,
+        Ok(RequestKind::Insert) => 132,
+        Ok(RequestKind::Grant) => 385,
+        Ok(RequestKind::Revoke) => 65,
+        Ok(RequestKind::Open) => 126,
+        Ok(RequestKind::Leave) => MOST,
+        Err(_) => 0,
     }
 }
 
@@ -108,19 +108,16 @@ pub fn read_block(input: &[u8], u: Unread, requests: &mut [u64]) -> Block
 // The block's requests on the book, in one call. None finds the order list too short.
 pub fn serve_block(
     h: Head,
-    iv: &mut [u8],
-    it: &mut [u8],
-    ov: &mut [u8],
-    ot: &mut [u8],
-    rs: &mut [u8],
+    t: &mut TablesMut<'_>,
     requests: &[u64],
     answers: &mut [u16],
     orders: &mut [u16],
 ) -> Served
-    requires ready { Ready h (tables iv.old it.old ov.old ot.old rs.old) }
+    requires ready { Ready h (tables_mut t.old) }
     requires enough { Enough requests.now answers.old orders.old }
-    ensures answered { Answered result (tables iv.new it.new ov.new ot.new rs.new) (take (length requests.now) answers.new) orders.new }
-    ensures orders_after { serving result (tables iv.new it.new ov.new ot.new rs.new) answers.new orders.new ≡ serve_call requests.now h (tables iv.old it.old ov.old ot.old rs.old) answers.old orders.old }
+    ensures answered { Answered (Ok result) (tables_mut t.new) (take (length requests.now) answers.new) orders.new }
+    ensures orders_after { serving (Ok result) (tables_mut t.new) answers.new orders.new ≡ serve_call requests.now h (tables_mut t.old) answers.old orders.old }
+    ensures same { SameTables t.old t.new }
 {
-    serve(h, iv, it, ov, ot, rs, requests, answers, orders)
+    serve(h, t, requests, answers, orders).unwrap()
 }

@@ -82,9 +82,7 @@ pub fn tell(console: Console, h: Hint) {
         Hint::Nothing => {
             b"fenstubble: nothing came in: the first line must be 'delta' or 'full' (see --help)\n"
         }
-        Hint::Empty => {
-            b"fenstubble: the first line is empty: write 'delta' or 'full' there\n"
-        }
+        Hint::Empty => { b"fenstubble: the first line is empty: write 'delta' or 'full' there\n" }
         Hint::Marked => {
             b"fenstubble: the first line begins with a byte order mark: save the requests as plain text without one\n"
         }

@@ -1,5 +1,4 @@
 // The request program: request lines from standard input, their answers to standard output. Its memory is fixed.
-// The five tables are iv, it, ov, ot, rs: inner vertices and tokens, outer vertices and tokens, resources.
 #![tactic(auto)]
 
 mod block;
@@ -10,7 +9,7 @@ mod output;
 
 ghost use Rattle.std.specs.Prelude.{[], ◌≡◌, ◌≤◌, IfOk, length};
 ghost use Rattle.rules.specs.Book.{empty_book};
-ghost use Rattle.rules.specs.Bytes.{tables, head_of};
+ghost use Rattle.rules.specs.Bytes.{tables_mut, SameTables, head_of};
 ghost use Rattle.plan.specs.Judge.{Ready};
 ghost use Rattle.lines.specs.Program.{lines_in};
 ghost use Rattle.desk.specs.Input.{pending};
@@ -29,7 +28,8 @@ use memory::{
 use output::{OUTPUT, print_block};
 use policy::serve::REQUEST_WIDTH;
 use rules::{
-    Head, InnerTokens, InnerVertices, Joined, Mode, OuterTokens, OuterVertices, Resources, Served,
+    BookTables, Head, InnerTokens, InnerVertices, Joined, Mode, OuterTokens, OuterVertices,
+    Resources, TablesMut,
 };
 use sets::Users;
 use std::io;
@@ -90,31 +90,25 @@ fn wait(console: Console, s: State, input: &mut [u8], out: &[u8]) -> io::Result<
 fn answer_block(
     console: Console,
     s: State,
-    iv: &mut [u8],
-    it: &mut [u8],
-    ov: &mut [u8],
-    ot: &mut [u8],
-    rs: &mut [u8],
+    t: &mut TablesMut<'_>,
     requests: &[u64],
     answers: &mut [u16],
     orders: &mut [u16],
     out: &mut [u8],
 ) -> io::Result<State>
-    requires ready { Ready s.head (tables iv.old it.old ov.old ot.old rs.old) }
+    requires ready { Ready s.head (tables_mut t.old) }
     requires enough { Enough requests.now answers.old orders.old }
     requires filled_in_bounds { s.filled ≤ length out.old }
     requires longest_in_bounds { longest ≤ length out.old }
-    ensures sound { Sound (tables iv.new it.new ov.new ot.new rs.new) }
-    ensures block_answered { IfOk result (λ r. BlockAnswered s (tables iv.old it.old ov.old ot.old rs.old) requests.now out.old r (tables iv.new it.new ov.new ot.new rs.new) out.new) }
+    ensures sound { Sound (tables_mut t.new) }
+    ensures same { SameTables t.old t.new }
+    ensures block_answered { IfOk result (λ r. BlockAnswered s (tables_mut t.old) requests.now out.old r (tables_mut t.new) out.new) }
 {
     let end = requests.len();
-    let served = serve_block(s.head, iv, it, ov, ot, rs, requests, answers, orders);
-    let Served::Done(head, _) = served else {
-        return Ok(s);
-    };
+    let served = serve_block(s.head, t, requests, answers, orders);
     let filled = print_block(console, requests, &answers[..end], orders, out, s.filled)?;
     Ok(State {
-        head,
+        head: served.head,
         unread: s.unread,
         filled,
         going: true,
@@ -125,22 +119,19 @@ fn answer_block(
 fn turn(
     console: Console,
     s: State,
-    iv: &mut [u8],
-    it: &mut [u8],
-    ov: &mut [u8],
-    ot: &mut [u8],
-    rs: &mut [u8],
+    t: &mut TablesMut<'_>,
     requests: &mut [u64],
     answers: &mut [u16],
     orders: &mut [u16],
     input: &mut [u8],
     out: &mut [u8],
 ) -> io::Result<State>
-    requires holds { Holds s (tables iv.old it.old ov.old ot.old rs.old) input.old out.old }
+    requires holds { Holds s (tables_mut t.old) input.old out.old }
     requires lent { Lent requests.old answers.old orders.old out.old }
-    ensures sound { Sound (tables iv.new it.new ov.new ot.new rs.new) }
-    ensures holds_2 { IfOk result (λ r. Holds r (tables iv.new it.new ov.new ot.new rs.new) input.new out.new) }
-    ensures goes { IfOk result (λ r. Goes (desk s (tables iv.old it.old ov.old ot.old rs.old) input.old out.old) (desk r (tables iv.new it.new ov.new ot.new rs.new) input.new out.new) r.going) }
+    ensures sound { Sound (tables_mut t.new) }
+    ensures same { SameTables t.old t.new }
+    ensures holds_2 { IfOk result (λ r. Holds r (tables_mut t.new) input.new out.new) }
+    ensures goes { IfOk result (λ r. Goes (desk s (tables_mut t.old) input.old out.old) (desk r (tables_mut t.new) input.new out.new) r.going) }
 {
     let b = read_block(input, s.unread, requests);
     let s = State {
@@ -153,34 +144,18 @@ fn turn(
     if n == 0 {
         return wait(console, s, input, out);
     }
-    answer_block(
-        console,
-        s,
-        iv,
-        it,
-        ov,
-        ot,
-        rs,
-        &requests[..n],
-        answers,
-        orders,
-        out,
-    )
+    answer_block(console, s, t, &requests[..n], answers, orders, out)
 }
 
 // Turn after turn to the last state. (They are counted, from a number that no run uses up: nothing says that the input ends.)
 fn answer_all(
     console: Console,
     s: State,
-    iv: &mut [u8],
-    it: &mut [u8],
-    ov: &mut [u8],
-    ot: &mut [u8],
-    rs: &mut [u8],
+    t: &mut TablesMut<'_>,
     input: &mut [u8],
 ) -> io::Result<State>
-    requires { Starts s (tables iv.old it.old ov.old ot.old rs.old) input.old }
-    ensures { IfOk result (λ r. Runs (desk s (tables iv.old it.old ov.old ot.old rs.old) input.old []) r (tables iv.new it.new ov.new ot.new rs.new) input.new) }
+    requires { Starts s (tables_mut t.old) input.old }
+    ensures { IfOk result (λ r. Runs (desk s (tables_mut t.old) input.old []) r (tables_mut t.new) input.new) }
 {
     let mut requests: [u64; REQUEST_ROWS] = zeros(0);
     let mut answers: [u16; ANSWER_ROWS] = zeros(0);
@@ -194,11 +169,7 @@ fn answer_all(
         state = turn(
             console,
             state,
-            iv,
-            it,
-            ov,
-            ot,
-            rs,
+            t,
             &mut requests,
             &mut answers,
             &mut orders,
@@ -224,18 +195,23 @@ fn main(rt: HostRuntime) {
         tell(console, hint_in(&input, whole));
         return;
     };
-    let mut iv: [u8; INNER_VERTICES] = zeros(0);
-    let mut it: [u8; INNER_TOKENS] = zeros(0);
-    let mut ov: [u8; OUTER_VERTICES] = zeros(0);
-    let mut ot: [u8; OUTER_TOKENS] = zeros(0);
-    let mut rs: [u8; RESOURCES] = zeros(0);
+    let mut inner_vertices: [u8; INNER_VERTICES] = zeros(0);
+    let mut inner_tokens: [u8; INNER_TOKENS] = zeros(0);
+    let mut outer_vertices: [u8; OUTER_VERTICES] = zeros(0);
+    let mut outer_tokens: [u8; OUTER_TOKENS] = zeros(0);
+    let mut resources: [u8; RESOURCES] = zeros(0);
+    let mut t: TablesMut<'_> = BookTables {
+        inner_vertices: &mut inner_vertices,
+        inner_tokens: &mut inner_tokens,
+        outer_vertices: &mut outer_vertices,
+        outer_tokens: &mut outer_tokens,
+        resources: &mut resources,
+    };
     let s = State {
         head: empty_head(taken.mode),
         unread: taken.unread,
         filled: 0,
         going: true,
     };
-    let _ = answer_all(
-        console, s, &mut iv, &mut it, &mut ov, &mut ot, &mut rs, &mut input,
-    );
+    let _ = answer_all(console, s, &mut t, &mut input);
 }

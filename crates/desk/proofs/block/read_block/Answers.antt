@@ -1,6 +1,6 @@
 -- `desk::block::read_block` meets its contract. The invariant: the order rows that are left are enough for the rows so far, and the
 -- lines left complete the block. Assumes nothing.
-use Rattle.std.proofs.Common.{ℕ, ◌+◌, ◌*◌, ◌-◌, ◌≡◌, List, length, take, refl, sym, ap, subst, ◌∙◌, arith}
+use Rattle.std.proofs.Common.{ℕ, ◌+◌, ◌*◌, ◌-◌, ◌≡◌, List, take, refl, sym, ap, subst, ◌∙◌, arith}
 use Rattle.lines.specs.Program.{lines_in}
 use Rattle.desk.specs.Input.{between}
 use Rattle.desk.specs.Block.{most_of, most_in, Takes}

@@ -1,5 +1,5 @@
 -- `desk::input::keep_start` meets its contract. Assumes nothing.
-use Rattle.std.proofs.Common.{refl, arith}
+use Rattle.std.proofs.Common.{refl}
 use borrow.Author.Tests.{lt-ltb, le-ltb}
 use Rattle.desk.proofs.LineLaws.{long-cut, long-by, keeps-none, keeps-all, to-front}
 use Rattle.desk.proofs.input.keep_start.Goals as goal

@@ -1,6 +1,6 @@
 -- `desk::output::print_block` meets its contract. The invariant: the order rows that the answers left count are still to come, and so
 -- are their texts. Assumes nothing.
-use Rattle.std.proofs.Common.{◌*◌, ◌≡◌, ◌<◌, ◌∷◌, length, take, drop, get_or, sym, ap, ◌∙◌, arith}
+use Rattle.std.proofs.Common.{◌*◌, ◌≡◌, ◌<◌, ◌∷◌, length, get_or, sym, ap, ◌∙◌, arith}
 use mathlib.Core.Logic.{inl, inr}
 use lib.ListN.{length-append, length-drop}
 use Rattle.std.specs.Slice.Iter.{chunks_exact_rest}
@@ -41,7 +41,7 @@ loop-request-preserved c =
     let number = c.number_told-number.result in
     let view = get_or answer 1 0 in
     let next : texts (chunks_exact_rest (zip_first l.request-iterator)) (chunks_exact_rest (zip_second l.request-iterator)) l.left.now
-        ≡ answer_text number view rows ∷ texts requests answers behind =
+    ≡ answer_text number view rows ∷ texts requests answers behind =
     rw (steps.0.1.0, steps.1.1.0, texts-next request requests answer answers l.left.now three three', c.number_told-number.ensures, c.split_at.ensures.front, c.split_at.ensures.back, c.from.ensures) in
     let put = c.print_answer in (
       (omega (arith, steps.0.0, i.2), omega (arith, steps.1.0, i.3)),
