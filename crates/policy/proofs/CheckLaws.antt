@@ -4,7 +4,7 @@ use Rattle.std.specs.Prelude.{Result, Ok, Err}
 use Rattle.std.specs.Result.{IsErrAnd}
 use Rattle.std.proofs.lemmas.Result.{err_from_is_err_and}
 use mathlib.Core.Path.{◌≡◌, refl, sym, ap, ◌∙◌}
-use mathlib.Core.List.{List, [], ◌++◌, append-nil}
+use mathlib.Core.List.{[], ◌++◌, append-nil}
 use mathlib.Core.Option.{Option, some, none}
 use Rattle.rules.specs.Bytes.{Tables, book_in}
 use Rattle.rules.specs.Refusals.{common, verdict}

@@ -5,11 +5,10 @@ use Prim.Native.Nat.{ℕ, ◌+◌, ◌*◌, ◌-◌, ◌≤◌}
 use mathlib.Core.Path.{◌≡◌, refl, sym, ap, ap₂, ◌∙◌}
 use mathlib.Core.List.{List, ◌++◌, append_assoc}
 use native.Mathlib.Omega.{arith}
-use lib.ListN.{length, take, drop, length-take}
+use lib.ListN.{length, take, drop}
 use lib.Seq.{take_at, drop_at}
-use Rattle.sets.specs.Words.{people}
 use Rattle.rows.specs.Number.{stored}
-use Rattle.rows.proofs.Laws.{stored-add, length-stored}
+use Rattle.rows.proofs.Laws.{stored-add}
 use Rattle.rows.proofs.Table.{length-written}
 use Rattle.rules.specs.Book.{Book}
 use Rattle.rules.specs.Open.{inner_chain, outer_chain}
@@ -26,7 +25,7 @@ use Rattle.policy.specs.Open.{openable, Passed}
 use Rattle.policy.specs.Serve.{asked_of, marked_row, marked}
 use Rattle.policy.specs.declared.serve.Asks.{Asks}
 use Rattle.policy.specs.declared.serve.Asks.TheVariants as asks
-use Rattle.policy.proofs.OpenLaws.{length-opened, judged-no, judged-go}
+use Rattle.policy.proofs.OpenLaws.{length_opened, judged-no, judged-go}
 
 length_marked : (mark : ℕ) (list : List ℕ) → length (marked mark list) ≡ length list * 3
 unfolding marked
@@ -45,7 +44,7 @@ module _ {h : Head} {t : Tables} {u r room : ℕ} {k : Chains} (p : Passed h t u
   outer-is = sym (ap (λ (x : Chains). x.outer) p.lengths)
 
   pub shown-rows : length (opened b u r) ≡ k.inner + k.outer
-  shown-rows = omega (arith, length-opened b u r, inner-is, outer-is)
+  shown-rows = omega (arith, length_opened b u r, inner-is, outer-is)
 
   -- the list that has them now
   module _ (blank : List ℕ) {list : List ℕ} (long : k.inner + k.outer ≤ length blank) (e : list ≡ stored 0 (opened b u r) blank) where
@@ -93,4 +92,4 @@ module _ (h : Head) (t : Tables) (u r : ℕ) (ready : Ready h t) (list : List �
   unfolding one open_one change_one
   one-shown e q =
       let (v, l) = judged-go h t u r ready _ ej e in
-      rw (v, q, length-opened (book_in h t) u r, l)
+      rw (v, q, length_opened (book_in h t) u r, l)

@@ -4,8 +4,8 @@ use Rattle.std.specs.Prelude.{Result, Ok, Err}
 use Prim.Native.Nat.{ℕ, ◌+◌, ◌-◌, ◌≤◌, ◌<◌}
 use mathlib.Core.Path.{◌≡◌, refl, sym, ap, ap₂, ◌∙◌}
 use mathlib.Core.Bool.{Bool, true, false, ◌&&◌, not, cond}
-use mathlib.Core.Logic.{◌⊎◌, inl, inr, ◌≢◌}
-use mathlib.Core.List.{List, [], ◌∷◌, ◌++◌}
+use mathlib.Core.Logic.{inl, inr, ◌≢◌}
+use mathlib.Core.List.{List, [], ◌∷◌}
 use mathlib.Core.Option.{Option, some, none}
 use native.Mathlib.Omega.{arith}
 use lib.Dec.{eqb, ltb}
@@ -22,7 +22,7 @@ use Rattle.rules.specs.Book.{Book, Resource, resource, has_outer}
 use Rattle.rules.specs.Book as book
 use Rattle.rules.specs.Holders.{holders, holders_of, inner_known, outer_known, view_by, view}
 use Rattle.rules.specs.Derivation.{Opens}
-use Rattle.rules.specs.Open.{chain, direct, inner_chain, outer_chain}
+use Rattle.rules.specs.Open.{direct, inner_chain, outer_chain}
 use Rattle.rules.specs.Bytes.{Tables, book_in, resources_in}
 use Rattle.rules.specs.Sound.{sound}
 use Rattle.rules.specs.Refusals.{verdict, no_such, opened, view_number, own_open, refusal_view, refusal_open}
@@ -43,13 +43,13 @@ use Rattle.theorems.proofs.ChainLaws.{direct-row}
 use Rattle.theorems.proofs.ViewLaws.{view-open}
 use Rattle.theorems.proofs.ShownLaws.{inner-few, outer-few}
 use Rattle.layer.specs.declared.laid.Layer.{Layer as Lent}
-use Rattle.layer.specs.Laid.{Laid, Kept, layer_of, outer_shape, no_resource}
+use Rattle.layer.specs.Laid.{Laid, layer_of, outer_shape, no_resource}
 use Rattle.layer.specs.Lent.{layer_in, Keeps}
 use Rattle.layer.proofs.Read.{layer-sets, layer-tokens}
 use Rattle.sound.specs.Check.{checked}
 use Rattle.plan.specs.Judge.{Ready}
 use Rattle.plan.proofs.ReadyLaws.{layered-laid, Sizes, sizes, resources-count, none-such, some-such}
-use Rattle.policy.specs.Open.{lengths_of, openable_by, openable, Opening, Passed, KeysOf, inner_rows, outer_rows, known_in, OuterThere, OuterNames, LetIn}
+use Rattle.policy.specs.Open.{lengths_of, openable_by, openable, Opening, KeysOf, inner_rows, outer_rows, known_in, OuterNames, LetIn}
 use Rattle.policy.specs.declared.open.Keys.{Keys}
 use Rattle.policy.proofs.CheckLaws.{unsound, rest-decides}
 
@@ -58,9 +58,9 @@ pub direct_written : (L : Layer) (u v k : ℕ) (list : List ℕ) → has (set_of
     → set list 0 k ≡ stored 0 (inner_rows L u v) list
 direct_written L u v k list lacks is l = rw (lacks, is) (stored-sets 0 (k ∷ []) list (rw lacks at l))
 
-pub length-opened : (b : Book) (u r : ℕ) → length (opened b u r) ≡ length (inner_chain b u r) + length (outer_chain b u r)
+pub length_opened : (b : Book) (u r : ℕ) → length (opened b u r) ≡ length (inner_chain b u r) + length (outer_chain b u r)
 unfolding opened
-length-opened b u r = length-append (inner_chain b u r) (outer_chain b u r)
+length_opened b u r = length-append (inner_chain b u r) (outer_chain b u r)
 
 -- ---- a resource's keys
 
@@ -154,8 +154,8 @@ module _ {h : Head} {t : Tables} {r : ℕ} {k : Keys} (f : KeysOf h t r k) where
     inside' = omega (arith, o.there, resources-count h t.inner_vertices t.inner_tokens t.outer_vertices t.outer_tokens t.resources)
 
     -- RULES 5.10 b: a user who is not in the inner vertex's set has the one kind 1 row
-    pub let-in : LetIn k.inner.shape (layer_in k.inner) u k.inner_vertex.0
-    let-in = rw (f.inner, f.inner-vertex) (λ lacks.
+    pub let_in : LetIn k.inner.shape (layer_in k.inner) u k.inner_vertex.0
+    let_in = rw (f.inner, f.inner-vertex) (λ lacks.
         omega (
           arith,
           ap (λ (L : Layer). length L.tokens) f.inner,
@@ -163,8 +163,8 @@ module _ {h : Head} {t : Tables} {r : ℕ} {k : Keys} (f : KeysOf h t r k) where
           (direct-row (sound-kept B safe).inner u (resource B r).inner ((inner-access B safe u (resource B r).inner).0 opened-by.bel) lacks).there,
         ))
 
-    pub outer-names : OuterNames k.outer.shape (layer_in k.outer) u k.outer_vertex.0
-    outer-names n = (
+    pub outer_names : OuterNames k.outer.shape (layer_in k.outer) u k.outer_vertex.0
+    outer_names n = (
       f.outer-there n,
       rw (f.outer, f.outer-vertex) ((outer-main B safe u (resource B r).outer).0 (opened-by.sel (λ e. n (f.outer-vertex ∙ e)))),
     )
@@ -178,15 +178,15 @@ module _ {h : Head} {t : Tables} {r : ℕ} {k : Keys} (f : KeysOf h t r k) where
     unfolding outer_chain has_outer
     outer-shown = rw (f.outer, f.outer-vertex)
 
-    pub inner-short : length (inner_rows (layer_in k.inner) u k.inner_vertex.0) < people
-    inner-short = rw inner-shown (inner-few B safe u r opened-by inside')
+    pub inner_short : length (inner_rows (layer_in k.inner) u k.inner_vertex.0) < people
+    inner_short = rw inner-shown (inner-few B safe u r opened-by inside')
 
-    pub outer-short : length (outer_rows (layer_in k.outer) u k.outer_vertex.0) < people
-    outer-short = rw outer-shown (outer-few B safe u r opened-by inside')
+    pub outer_short : length (outer_rows (layer_in k.outer) u k.outer_vertex.0) < people
+    outer_short = rw outer-shown (outer-few B safe u r opened-by inside')
 
-    pub lengths-are : {m n : ℕ} → m ≡ length (inner_rows (layer_in k.inner) u k.inner_vertex.0) → n ≡ length (outer_rows (layer_in k.outer) u k.outer_vertex.0)
+    pub lengths_are : {m n : ℕ} → m ≡ length (inner_rows (layer_in k.inner) u k.inner_vertex.0) → n ≡ length (outer_rows (layer_in k.outer) u k.outer_vertex.0)
         → record { inner = m; outer = n } ≡ lengths_of B u r
-    lengths-are {m} {n} em en = ap₂ lengths (em ∙ ap length inner-shown) (en ∙ ap length outer-shown)
+    lengths_are {m} {n} em en = ap₂ lengths (em ∙ ap length inner-shown) (en ∙ ap length outer-shown)
       where
         lengths : ℕ → ℕ → Chains
         lengths m n = record { inner = m; outer = n }
@@ -194,7 +194,7 @@ module _ {h : Head} {t : Tables} {r : ℕ} {k : Keys} (f : KeysOf h t r k) where
     -- the list after the inner rows, and with the rows `ys` put into its part behind them
     module _ (list : List ℕ) (room : length (opened B u r) ≤ length list) where
       both : length (inner_chain B u r) + length (outer_chain B u r) ≤ length list
-      both = omega (arith, length-opened B u r)
+      both = omega (arith, length_opened B u r)
 
       pub inner_room : length (inner_rows (layer_in k.inner) u k.inner_vertex.0) ≤ length list
       inner_room = rw inner-shown (omega (arith, both))
@@ -204,7 +204,7 @@ module _ {h : Head} {t : Tables} {r : ℕ} {k : Keys} (f : KeysOf h t r k) where
         longer = ap length e ∙ length-stored 0 (inner_rows (layer_in k.inner) u k.inner_vertex.0) list (omega (arith, inner_room))
 
         pub starts-within : (at ≤ length list') × (at < people)
-        starts-within = (omega (arith, both, longer), omega (arith, ap length inner-shown, inner-short))
+        starts-within = (omega (arith, both, longer), omega (arith, ap length inner-shown, inner_short))
 
         pub outer-room : length (outer_rows (layer_in k.outer) u k.outer_vertex.0) ≤ length (take (length list' - at) (drop at list'))
         outer-room = rw outer-shown (simp (length-take, length-drop) (omega (arith, both, longer)))
@@ -248,7 +248,7 @@ module _ (h : Head) (t : Tables) (u r : ℕ) {z : Result Unit Refusal} (ez : z �
 
       module _ (eo : v ≡ Open) {k : Chains} (ek : k ≡ lengths_of A u r) where
         count : k.inner + k.outer ≡ length (opened A u r)
-        count = rw ek (sym (length-opened A u r))
+        count = rw ek (sym (length_opened A u r))
 
         pub open-short : room < k.inner + k.outer → Err ShortList ≡ openable A u r room
         unfolding openable openable_by verdict
@@ -257,11 +257,6 @@ module _ (h : Head) (t : Tables) (u r : ℕ) {z : Result Unit Refusal} (ez : z �
         pub open-go : k.inner + k.outer ≤ room → Ok k ≡ openable A u r room
         unfolding openable openable_by verdict
         open-go l = rw (ek, present ok, ← ev, eo, le-ltb room (length (opened A u r)) (omega (arith, count)))
-
--- what is shown has room
-pub passed-room : {h : Head} {t : Tables} {u r room : ℕ} {k : Chains} → Passed h t u r room k → length (opened (book_in h t) u r) ≤ room
-passed-room {h} {t} {u} {r} p =
-    omega (arith, length-opened (book_in h t) u r, ap (λ (k : Chains). k.inner) p.lengths, ap (λ (k : Chains). k.outer) p.lengths, p.rows)
 
 -- ---- the calls
 

@@ -4,21 +4,21 @@ use Rattle.std.specs.Prelude.{Result, Ok, Err}
 use Prim.Native.Nat.{ℕ, ◌+◌, ◌*◌, ◌/◌, ◌-◌, ◌≤◌, ◌<◌}
 use mathlib.Core.Path.{◌≡◌, refl, sym, ap, ap₂, ◌∙◌, subst}
 use mathlib.Core.Bool.{Bool, true, false, ◌&&◌, not, cond, true≢false}
-use mathlib.Core.List.{List, [], ◌∷◌, ◌++◌, append_assoc}
-use mathlib.Core.Option.{Option, some, none}
+use mathlib.Core.List.{List, ◌∷◌, ◌++◌, append_assoc}
+use mathlib.Core.Option.{some, none}
 use native.Mathlib.Nat.{add_assoc, add-zero, zero-add}
 use native.Mathlib.Numerals.{add-one}
 use native.Mathlib.Omega.{arith}
 use lib.Dec.{ltb, lit≤}
-use lib.ListN.{length, take, drop, get_or, length-append, length-drop, take-append-drop, drop_of_length-le}
+use lib.ListN.{length, take, drop, get_or, length-append, take-append-drop, drop_of_length-le}
 use lib.Seq.{length-take-le, take_at, drop_at, drop-cons, drop-drop}
 use borrow.Author.Tests.{ltb-true, lt-ltb, le-ltb}
 use borrow.Rule.Slice.PartMut.{put_mid}
 use Rattle.rows.specs.Number.{stored}
-use Rattle.rows.proofs.Laws.{stored-none, stored-both, length-stored}
+use Rattle.rows.proofs.Laws.{stored-none, stored-both}
 use Rattle.rows.proofs.Part.{take_behind, drop-behind, part-lent, part-back}
 use Rattle.rules.specs.Bytes.{Tables, book_in}
-use Rattle.rules.specs.Refusals.{Request, joins, inserts, grants, revokes, leaves, work, own, limits, verdict, common, no_such}
+use Rattle.rules.specs.Refusals.{Request, joins, inserts, grants, revokes, leaves, work, own, limits, verdict, no_such}
 use Rattle.rules.specs.Calls.{rows_lent, change, change_by, Asked, changes, opens, nothing, asked, asked_in, One, one, change_one, open_one, All, all, Service, serving, serve_by, refusal_serve, serve_call, refused_one}
 use Rattle.rules.specs.Runs.{keep, book_of}
 use Rattle.rules.specs.declared.Head.{Head}

@@ -1,6 +1,6 @@
 -- Several requests in one call: what a row asks of the code, and what one request answers. RULES 8.8.
 -- Assumes nothing.
-use Rattle.std.specs.Prelude.{ℕ, ◌≤◌, ◌≡◌, ◌&&◌, cond, List, [], ◌∷◌, map, ltb, Option, Some, None, Result, Ok, Err}
+use Rattle.std.specs.Prelude.{ℕ, ◌≤◌, ◌&&◌, cond, List, [], ◌∷◌, map, ltb, Option, Some, None, Result, Ok, Err}
 use Rattle.rows.specs.Number.{joined}
 use Rattle.rules.specs.Refusals.{joins, inserts, grants, revokes, leaves, number, view_told}
 use Rattle.rules.specs.Calls.{Asked, changes, opens, nothing, rows_lent}

@@ -124,6 +124,7 @@ fn outer_length(o: &Layer<'_>, v: OuterVertex, u: User) -> usize
 }
 
 // Each chain has fewer rows than there can be users.
+#[tactic(auto, using(crate::proofs::OpenLaws::inner_short, crate::proofs::OpenLaws::outer_short, crate::proofs::OpenLaws::outer_names, crate::proofs::OpenLaws::lengths_are))]
 fn chain_lengths(h: Head, t: &Tables<'_>, u: User, r: Resource) -> Chains
     requires { Opening h (tables_of t.now) u.0 r.0 }
     ensures value { result ≡ lengths_of (book_in h (tables_of t.now)) u.0 r.0 }
@@ -191,14 +192,8 @@ fn outer_rows(o: &Layer<'_>, v: OuterVertex, u: User, list: &mut [u16])
 }
 
 // The rows of both chains, "those of the inner chain first" (RULES 5.10). The outer ones start at `at`.
-pub fn put_chains(
-    h: Head,
-    t: &Tables<'_>,
-    u: User,
-    r: Resource,
-    at: usize,
-    list: &mut [u16],
-)
+#[tactic(auto, using(crate::proofs::OpenLaws::length_opened, crate::proofs::OpenLaws::let_in, crate::proofs::OpenLaws::outer_names))]
+pub fn put_chains(h: Head, t: &Tables<'_>, u: User, r: Resource, at: usize, list: &mut [u16])
     requires opening { Opening h (tables_of t.now) u.0 r.0 }
     requires at_value { at ≡ length (inner_chain (book_in h (tables_of t.now)) u.0 r.0) }
     requires r_in_bounds { length (opened (book_in h (tables_of t.now)) u.0 r.0) ≤ length list.old }
@@ -209,6 +204,7 @@ pub fn put_chains(
     outer_rows(&k.outer, k.outer_vertex, u, &mut list[at..]);
 }
 
+#[tactic(auto, using(crate::proofs::OpenLaws::length_opened))]
 pub fn open(
     h: Head,
     t: &Tables<'_>,

@@ -26,7 +26,7 @@ pub const REQUEST_WIDTH: usize = 3;
 
 pub const ANSWER_WIDTH: usize = 3;
 
-// The most rows that the two chains of an open can have together: each has fewer than there are users.
+// The most rows that the two chains of an open can have together: each has fewer than there are users. They stand in an array, since nothing is put on a heap.
 pub const CHAINS: usize = 2 * (Users::LIMIT as usize - 1);
 
 // ---- what a row asks
@@ -89,14 +89,8 @@ fn put_marked(list: &[u16], mark: OrderKind, orders: &mut [u16], row: usize)
 }
 
 // Both chains' rows as order rows: 'i' marks the inner ones, 'o' the outer.
-fn put_shown(
-    h: Head,
-    t: &Tables<'_>,
-    u: User,
-    r: Resource,
-    k: Chains,
-    orders: &mut [u16],
-)
+#[tactic(auto, using(crate::proofs::OpenLaws::length_opened))]
+fn put_shown(h: Head, t: &Tables<'_>, u: User, r: Resource, k: Chains, orders: &mut [u16])
     requires { Passed h (tables_of t.now) u.0 r.0 (rows_lent orders.old) k }
     ensures { orders.new ≡ stored 0 (chain_rows (book_in h (tables_of t.now)) u.0 r.0) orders.old }
 {
@@ -105,7 +99,12 @@ fn put_shown(
     let outer = k.outer as usize;
     put_chains(h, t, u, r, inner, &mut list);
     put_marked(&list[..inner], OrderKind::InnerRow, orders, 0);
-    put_marked(&list[inner..inner + outer], OrderKind::OuterRow, orders, inner);
+    put_marked(
+        &list[inner..inner + outer],
+        OrderKind::OuterRow,
+        orders,
+        inner,
+    );
 }
 
 // An open on tables that are known to be long enough and to hold a sound book: the head stays, and its rows count.
@@ -145,16 +144,11 @@ fn answer_one(
     }
 }
 
-// The answer row of a request: the refusal's number or 0, the view for 11, the count of its rows. The head and the count after it are given back.
-fn put_answer(
-    h: Head,
-    a: Result<Applied, Refusal>,
-    answers: &mut [u16],
-    row: usize,
-) -> Applied
+// The answer row of a request: the refusal's number or 0, the view for 11, the count of its rows. It gives the head and the count after the request.
+fn put_answer(h: Head, a: Result<Applied, Refusal>, answers: &mut [u16], row: usize) -> Applied
     requires { row * 3 + 3 ≤ length answers.old }
-    ensures after { result ≡ after h a }
-    ensures stored { answers.new ≡ stored (row * 3) (answer_row a) answers.old }
+    ensures value { result ≡ after h a }
+    ensures answers_after { answers.new ≡ stored (row * 3) (answer_row a) answers.old }
 {
     match a {
         Ok(done) => {

@@ -207,7 +207,7 @@ impl<'a> Book<'a> {
         row(
             4,
             unlocked(
-                self.head.mode.0,
+                self.head.mode,
                 t.resources,
                 n,
                 &self.inner(),

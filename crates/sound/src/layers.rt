@@ -119,6 +119,8 @@ pub fn ununited(l: &Layer<'_>) -> Option<usize>
     requires { l.now.shape.vertices ≤ max_vertices }
     ensures { result ≡ found_in l.now.shape.vertices (first (λ v. not (united_vertex (layer_in l.now) v)) (numbered 0 (layer_in l.now).sets)) }
 {
+    // A copy of its own is not read anew at each row.
+    let l = *l;
     let all = l.unions(0);
     (0..l.shape.vertices).position(|v| !united(l.set_of(v), all[v]))
 }

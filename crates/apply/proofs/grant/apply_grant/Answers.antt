@@ -1,6 +1,8 @@
 -- `apply::grant::apply_grant` meets its contract. Assumes nothing.
+use borrow.Author.Tests.{not-true, not-false}
 use Rattle.apply.proofs.ApplyLaws.{known}
 use Rattle.apply.proofs.GrantSteps.{grant-there, grant-user, grant-let-in, grant-group, grant-settle, grant-count, grant-done}
+use Rattle.apply.proofs.GrantWorks.{let-in-none, let-in-one}
 use Rattle.apply.proofs.grant.apply_grant.Goals as goal
 
 pub row_of-x-requires : goal.row_of-x-requires
@@ -19,18 +21,29 @@ pub settle-b-requires : goal.settle-b-requires
 settle-b-requires c =
     grant-settle (known c.requires.accepted) c.requires.p_value c.row_of-x.ensures c.with-list.ensures c.relist.ensures c.lock_waiting-a.ensures.works
 
-pub let_in-c-requires : goal.let_in-c-requires
-let_in-c-requires c =
-    grant-let-in (known c.requires.accepted) c.requires.p_value c.row_of-x.ensures c.with-list.ensures c.relist.ensures c.lock_waiting-a.ensures.works
-    c.settle-b.ensures.works
-
 pub answer-requires : goal.answer-requires
 answer-requires c =
     grant-count (known c.requires.accepted) c.requires.p_value c.row_of-x.ensures c.with-list.ensures c.relist.ensures c.lock_waiting-a.ensures.works
-    c.settle-b.ensures.works c.let_in-c.ensures.works
+    c.settle-b.ensures.works (let-in-none _ _ (not-true _ c.if-not-p.true))
+
+pub returns-then-not-p-clause-value : goal.returns-then-not-p-clause-value
+returns-then-not-p-clause-value c =
+    rw c.answer.ensures.value
+    (grant-done (known c.requires.accepted) c.requires.p_value c.row_of-x.ensures c.with-list.ensures c.relist.ensures c.lock_waiting-a.ensures.works
+    c.settle-b.ensures.works (let-in-none _ _ (not-true _ c.if-not-p.true)) c.answer.ensures.bytes)
+
+pub let_in-c-requires : goal.let_in-c-requires
+let_in-c-requires c =
+    grant-let-in (known c.requires.accepted) c.requires.p_value c.row_of-x.ensures c.with-list.ensures c.relist.ensures c.lock_waiting-a.ensures.works
+    c.settle-b.ensures.works (not-false _ c.if-not-p.false)
+
+pub answer-requires-2 : goal.answer-requires-2
+answer-requires-2 c =
+    grant-count (known c.requires.accepted) c.requires.p_value c.row_of-x.ensures c.with-list.ensures c.relist.ensures c.lock_waiting-a.ensures.works
+    c.settle-b.ensures.works (let-in-one _ _ (not-false _ c.if-not-p.false) c.let_in-c.ensures.works)
 
 pub returns-clause-value : goal.returns-clause-value
 returns-clause-value c =
-    rw c.answer.ensures.value
+    rw c.answer-2.ensures.value
     (grant-done (known c.requires.accepted) c.requires.p_value c.row_of-x.ensures c.with-list.ensures c.relist.ensures c.lock_waiting-a.ensures.works
-    c.settle-b.ensures.works c.let_in-c.ensures.works c.answer.ensures.bytes)
+    c.settle-b.ensures.works (let-in-one _ _ (not-false _ c.if-not-p.false) c.let_in-c.ensures.works) c.answer-2.ensures.bytes)

@@ -1,6 +1,6 @@
 -- `policy::open::open` meets its contract. Assumes nothing.
 use Rattle.policy.proofs.CheckLaws.{passed_on, checked-ready}
-use Rattle.policy.proofs.OpenLaws.{open-unsound, passed-room, open_no, open-shown}
+use Rattle.policy.proofs.OpenLaws.{open-unsound, open_no, open-shown}
 use Rattle.policy.proofs.open.open.Goals as goal
 
 pub returns-in_err-check : goal.returns-in_err-check
@@ -13,9 +13,6 @@ pub returns-in_err-k : goal.returns-in_err-k
 returns-in_err-k c =
     rw (passed_on c.from_residual-in_err-k.result c.from_residual-in_err-k.ensures.1)
     (open_no _ _ _ _ (checked-ready _ _ c.check.ensures c.in_ok-check.was) _ c.judge_open.ensures.value c.in_err-k.was)
-
-pub put_chains-requires-clause-r_in_bounds : goal.put_chains-requires-clause-r_in_bounds
-put_chains-requires-clause-r_in_bounds c = passed-room c.in_ok-k.ensures.passed
 
 pub returns : goal.returns
 returns c = open-shown _ _ _ _ (checked-ready _ _ c.check.ensures c.in_ok-check.was) _ c.judge_open.ensures.value c.in_ok-k.was c.put_chains.ensures

@@ -1,6 +1,4 @@
 use Rattle.rows.proofs.Fill.{Filled}
-use mathlib.Core.List.{[], ◌∷◌}
-use Prim.Native.Nat.{ℕ}
 use Rattle.rules.specs.Kinds.{order_number}
 use Rattle.policy.specs.Serve.{marked_row}
 use Rattle.policy.proofs.serve.put_marked.Given as goal

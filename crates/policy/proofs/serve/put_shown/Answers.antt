@@ -1,13 +1,9 @@
 -- `policy::serve::put_shown` meets its contract. Assumes nothing.
-use mathlib.Core.Path.{refl}
 use native.Mathlib.Omega.{arith}
 use lib.ListN.{length-take}
 use Rattle.rules.specs.Calls.{rows_lent}
-use Rattle.policy.proofs.MarkedLaws.{shown-rows, chains-put}
+use Rattle.policy.proofs.MarkedLaws.{chains-put}
 use Rattle.policy.proofs.serve.put_shown.Goals as goal
-
-pub put_chains-requires-clause-r_in_bounds : goal.put_chains-requires-clause-r_in_bounds
-put_chains-requires-clause-r_in_bounds c = omega (arith, shown-rows c.requires)
 
 pub put_marked-requires : goal.put_marked-requires
 unfolding rows_lent

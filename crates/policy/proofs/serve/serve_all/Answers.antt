@@ -17,7 +17,7 @@ pub loop-i-preserved : goal.loop-i-preserved
 unfolding rows_lent
 loop-i-preserved c = record {
   serving = serving-next _ _ _ _ _ c.loop-i.invariant.serving (omega (arith, c.requires.answerable)) c.loop-i-test.true c.row_asks-q.ensures
-      _ _ c.answer_one-a.ensures.value c.put_answer-after.ensures.after c.put_answer-after.ensures.stored;
+      _ _ c.answer_one-a.ensures.value c.put_answer-after.ensures.value c.put_answer-after.ensures.answers_after;
   same = search rules;
 }
 
