@@ -3,10 +3,11 @@ ghost use Rattle.std.specs.Prelude.{◌≡◌, ◌+◌, ◌≤◌, length};
 ghost use Rattle.lines.specs.Answer.{Puts};
 ghost use Rattle.inspect.specs.Text.{Headed, grown, mode_text, people_text, layers_text, head_text, refused_text, broken_text, short_text, Answers};
 
-use crate::text::{put_number, put_words};
+use crate::text::put_number;
 use crate::words::put_sentence;
-use book::{HEADER, Wrong, first_fault, head_in, header_in, version_in};
-use rules::{Fault, Head, fault_number, fault_place};
+use book::{HEADER, first_fault, head_in, header_in, version_in};
+use lines::answer::put_text;
+use rules::{Fault, Head, Mode};
 use sets::Users;
 
 // The fault of an input of which only the front was judged: a wrong length is that of the whole.
@@ -19,15 +20,15 @@ fn grow(f: Fault, total: usize) -> Fault
     }
 }
 
-fn put_mode(mode: u16, out: &mut [u8], at: usize) -> usize
+fn put_mode(mode: Mode, out: &mut [u8], at: usize) -> usize
     requires { at + 20 ≤ length out.old }
-    ensures puts { Puts (mode_text mode) at out.old result out.new }
+    ensures puts { Puts (mode_text mode.0) at out.old result out.new }
     ensures upper_bound { result ≤ at + 20 }
 {
-    if mode == 0 {
-        return put_words(b"mode full\n", out, at);
+    if mode == Mode::FULL {
+        return put_text(b"mode full\n", out, at);
     }
-    put_words(b"mode delta\n", out, at)
+    put_text(b"mode delta\n", out, at)
 }
 
 // `sound`, the mode, the users and the folders.
@@ -36,8 +37,8 @@ fn put_people(h: Head, out: &mut [u8]) -> usize
     ensures puts { Puts (people_text h) 0 out.old result out.new }
     ensures upper_bound { result ≤ 100 }
 {
-    let a = put_words(b"sound\n", out, 0);
-    let b = put_mode(h.mode.0, out, a);
+    let a = put_text(b"sound\n", out, 0);
+    let b = put_mode(h.mode, out, a);
     let c = put_number(b"users ", h.users.0 as u64, b'\n', out, b);
     put_number(b"folders ", h.resources.0 as u64, b'\n', out, c)
 }
@@ -76,8 +77,8 @@ fn put_refused(f: Fault, out: &mut [u8]) -> usize
     ensures puts { Puts (refused_text f) 0 out.old result out.new }
     ensures upper_bound { result ≤ 100 }
 {
-    let end = put_number(b"no ", fault_number(f) as u64, b' ', out, 0);
-    put_number(b"", fault_place(f) as u64, b'\n', out, end)
+    let end = put_number(b"no ", f.number() as u64, b' ', out, 0);
+    put_number(b"", f.place() as u64, b'\n', out, end)
 }
 
 // Of bytes that have a header.
@@ -96,7 +97,7 @@ fn put_short(n: usize, out: &mut [u8]) -> usize
     ensures { Puts (short_text n) 0 out.old result out.new }
 {
     let end = put_refused(Fault::Length(n), out);
-    put_words(b"wrong length: a header has 17 bytes\n", out, end)
+    put_text(b"wrong length: a header has 17 bytes\n", out, end)
 }
 
 // The answer to an input of which only the front may be at hand: as many bytes as the longest book has, and one more. What is wrong with bytes is told by their
@@ -109,10 +110,9 @@ pub fn put_check(front: &[u8], total: usize, out: &mut [u8]) -> usize
     if front.len() < HEADER {
         return put_short(total, out);
     }
-    let w = first_fault(front);
-    match w {
-        Wrong::Nothing => put_head(head_in(front), out),
-        Wrong::First(f) => {
+    match first_fault(front) {
+        Ok(()) => put_head(head_in(front), out),
+        Err(f) => {
             let h = header_in(front, Users::empty());
             put_broken(version_in(front), h, grow(f, total), out)
         }
