@@ -18,16 +18,17 @@ use Rattle.rules.specs.Bytes.{Tables, book_in}
 use Rattle.rules.specs.Runs.{keep}
 use Rattle.rules.specs.Calls.{rows_lent, Asked, asked, asked_in, One, one, refused_one, All, all, Service, serving, serve_by, serve_call}
 use Rattle.rules.specs.declared.Head.{Head}
+use Rattle.rules.specs.declared.Refusal.{Refusal}
 use Rattle.rules.specs.declared.Served.{Served}
-use Rattle.rules.specs.declared.Served.TheVariants.{Done}
+use Rattle.std.specs.Prelude.{Result, Ok}
 use Rattle.plan.specs.Judge as plan
 use Rattle.theorems.proofs.ServeLaws.{Ready, ready-one, own_orders, one-gives}
 use Rattle.lines.specs.Answer.{answer_text}
 use Rattle.lines.specs.Request.{line_asks}
 use Rattle.lines.specs.Program.{Told, no14, line_told, answer_to, answers, leaves}
 use Rattle.lines.proofs.ProgramLaws.{Kind, asks-kind}
-use Rattle.lines.specs.declared.request.Line.{Line}
-use Rattle.lines.specs.declared.request.Line.TheVariants.{Asks, Malformed}
+use Rattle.std.specs.Prelude.{Option, Some, None}
+use Rattle.lines.specs.declared.request.Asked.{Asked as Row}
 use Rattle.desk.specs.Block.{Enough, row_of, rows_of, row_told, rows_answers, rows_leave}
 use Rattle.desk.specs.Output.{told, texts}
 use Rattle.desk.proofs.BlockLaws.{most_asked, most_all, most-rows, asked-cons, Roomy, one-roomy, rest-room, kept, served, rows_long, block-served}
@@ -132,10 +133,10 @@ leave-rows (x ∷ y ∷ z ∷ xs) ys e b = leave-rows xs ys (omega arith) (row_t
 -- ---- the rows of lines
 
 module _ (b : Book) where
-  line_row : (q : Line) → Kind q → row_told (row_of q).kind (row_of q).a (row_of q).b b ≡ line_told q b
+  line_row : (q : Option Row) → Kind q → row_told (row_of q).kind (row_of q).a (row_of q).b b ≡ line_told q b
   unfolding row_told
-  line_row (Asks q) k = rw (ne_eqb q.kind 14 (λ e. omega arith))
-  line_row Malformed k = refl
+  line_row (Some q) k = rw (ne_eqb q.kind 14 (λ e. omega arith))
+  line_row None k = refl
 
 pub lines_rows : (ls : List (List ℕ)) (b : Book) → rows_answers (rows_of false ls) b ≡ answers ls b
 unfolding rows_answers rows_of answers
@@ -158,34 +159,36 @@ module _ (requests : List ℕ) (h : Head) (t : Tables) (answers₀ list : List �
   unfolding rows_lent
   all_told = rows_told requests h t list (kept requests h t answers₀ list k e) (omega (arith, most-rows requests, e.room))
 
-  pub serve-told : {s : Served} {t' : Tables} {answers' list' : List ℕ} → serving s t' answers' list' ≡ serve_call requests h t answers₀ list
+  pub serve-told : {s : Result Served Refusal} {t' : Tables} {answers' list' : List ℕ} → serving s t' answers' list' ≡ serve_call requests h t answers₀ list
       → (joined (texts requests (take (length requests) answers') list') ≡ rows_answers requests (book_in h t))
-      × ((h' : Head) (n : ℕ) → s ≡ Done h' n → book_in h' t' ≡ rows_leave requests (book_in h t))
+      × ((h' : Head) (n : ℕ) → s ≡ Ok (record { head = h'; used = n }) → book_in h' t' ≡ rows_leave requests (book_in h t))
   unfolding serve_by
   serve-told {s} {t'} {answers'} {list'} p =
       let a : All = all (asked_in requests) h t list in
       let q = p ∙ served requests h t answers₀ list k e in
-      let done : s ≡ Done a.head a.used = ap (λ (c : Service). c.answer) q in
+      let done : s ≡ Ok (record { head = a.head; used = a.used }) = ap (λ (c : Service). c.answer) q in
       let left : t' ≡ a.tables = ap (λ (c : Service). c.tables) q in
       let rows : take (length requests) answers' ≡ a.answers =
       ap₂ (λ (n : ℕ) (l : List ℕ). take n l) (sym (rows_long requests h t answers₀ list k e)) (ap (λ (c : Service). c.answers) q) ∙ stored-first a.answers answers₀ in (
         ap₂ (λ (x y : List ℕ). joined (texts requests x y)) rows (ap (λ (c : Service). c.orders) q) ∙ all_told.text,
-        λ h' n f. let same : h' ≡ a.head = cc in ap₂ (λ (x : Head) (y : Tables). book_in x y) same left ∙ all_told.book,
+        λ h' n f.
+            let same : ◌≡◌ {A = Served} (record { head = h'; used = n }) (record { head = a.head; used = a.used }) = cc in
+            ap₂ (λ (x : Head) (y : Tables). book_in x y) (ap (λ (x : Served). x.head) same) left ∙ all_told.book,
       )
 
 -- ---- one call or two
 
 module _ (xs ys : List ℕ) (w : length xs % 3 ≡ 0) (h : Head) (t : Tables) (k : plan.Ready h t) where
   -- the rows of both in one call, or the first and then the others on what is left: the same texts, and the same book
-  pub serve-parts : (answers₀ list : List ℕ) → Enough (xs ++ ys) answers₀ list → {s : Served} {t' : Tables} {answers' list' : List ℕ}
+  pub serve-parts : (answers₀ list : List ℕ) → Enough (xs ++ ys) answers₀ list → {s : Result Served Refusal} {t' : Tables} {answers' list' : List ℕ}
       → serving s t' answers' list' ≡ serve_call (xs ++ ys) h t answers₀ list
       → (answers₁ list₁ : List ℕ) → Enough xs answers₁ list₁ → {h₁ : Head} {n₁ : ℕ} {t₁ : Tables} {answers₁' list₁' : List ℕ}
-      → serving (Done h₁ n₁) t₁ answers₁' list₁' ≡ serve_call xs h t answers₁ list₁
+      → serving (Ok (record { head = h₁; used = n₁ })) t₁ answers₁' list₁' ≡ serve_call xs h t answers₁ list₁
       → (answers₂ list₂ : List ℕ) → Enough ys answers₂ list₂ → {h₂ : Head} {n₂ : ℕ} {t₂ : Tables} {answers₂' list₂' : List ℕ}
-      → serving (Done h₂ n₂) t₂ answers₂' list₂' ≡ serve_call ys h₁ t₁ answers₂ list₂
+      → serving (Ok (record { head = h₂; used = n₂ })) t₂ answers₂' list₂' ≡ serve_call ys h₁ t₁ answers₂ list₂
       → (joined (texts (xs ++ ys) (take (length (xs ++ ys)) answers') list')
       ≡ joined (texts xs (take (length xs) answers₁') list₁') ++ joined (texts ys (take (length ys) answers₂') list₂'))
-      × ((h' : Head) (n : ℕ) → s ≡ Done h' n → book_in h' t' ≡ book_in h₂ t₂)
+      × ((h' : Head) (n : ℕ) → s ≡ Ok (record { head = h'; used = n }) → book_in h' t' ≡ book_in h₂ t₂)
   serve-parts answers₀ list e p answers₁ list₁ e₁ {h₁} {n₁} {t₁} p₁ answers₂ list₂ e₂ {h₂} {n₂} {t₂} p₂ =
       let b : Book = book_in h t in
       let whole = serve-told (xs ++ ys) h t answers₀ list k e p in

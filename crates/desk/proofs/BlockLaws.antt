@@ -25,7 +25,7 @@ use Rattle.rules.specs.Runs.{keep, book_of}
 use Rattle.rules.specs.Calls.{order_rows, chain_rows, rows_lent, Change, change, change_by, Asked, changes, opens, nothing, asked, asked_in, One, one, change_one, open_one, refused_one, All, all, Service, serving, serve_by, refusal_serve, serve_call}
 use Rattle.rules.specs.declared.Head.{Head}
 use Rattle.rules.specs.declared.Served.{Served}
-use Rattle.rules.specs.declared.Served.TheVariants.{Done}
+use Rattle.std.specs.Prelude.{Result, Ok}
 use Rattle.rules.specs.declared.View.{View}
 use Rattle.rules.specs.declared.View.TheVariants as views
 use Rattle.rules.specs.declared.Refusal.{Refusal}
@@ -410,12 +410,12 @@ module _ (requests : List ℕ) (h : Head) (t : Tables) (answers list : List ℕ)
       let v = all-serves (asked_in requests) h t list in
       ap length v.stores ∙ length-stored 0 (each own_orders (asked_in requests) (keep h t) list) list (omega (arith, v.uses, used-few))
 
-  pub block-served : {s : Served} {t' : Tables} {answers' list' : List ℕ} → serving s t' answers' list' ≡ serve_call requests h t answers list
+  pub block-served : {s : Result Served Refusal} {t' : Tables} {answers' list' : List ℕ} → serving s t' answers' list' ≡ serve_call requests h t answers list
       → Answered s t' (take (length requests) answers') list'
   unfolding serve_by
   block-served {s} {t'} {answers'} {list'} p =
       let q = p ∙ served in
-      let done : s ≡ Done a.head a.used = ap (λ (c : Service). c.answer) q in
+      let done : s ≡ Ok (record { head = a.head; used = a.used }) = ap (λ (c : Service). c.answer) q in
       let left : t' ≡ a.tables = ap (λ (c : Service). c.tables) q in
       let told : answers' ≡ stored 0 a.answers answers = ap (λ (c : Service). c.answers) q in
       let list-is : list' ≡ a.orders = ap (λ (c : Service). c.orders) q in

@@ -14,45 +14,34 @@ use Rattle.rules.specs.declared.Mode.{Mode}
 use Rattle.rules.specs.declared.Head.{Head}
 use Rattle.lines.specs.Request.{line_asks, first_line}
 use Rattle.lines.specs.Program.{lines_in, closed, span, answers, leaves, started, answered, program, no14}
-use Rattle.lines.specs.declared.request.First.{First}
-use Rattle.lines.specs.declared.request.First.TheVariants.{Of}
-use Rattle.lines.specs.declared.request.First.TheVariants as firsts
+use Rattle.std.specs.Prelude.{Option, Some, None}
 use Rattle.lines.proofs.ProgramLaws.{behind, closed-taken, long-asks, long-first}
 use Rattle.rules.specs.Runs.{book_of}
 use Rattle.theorems.proofs.RunLaws.{fresh, fresh-book}
-use Rattle.desk.specs.Input.{between, start, pending, Whole, Comes, no_line, lacks_line, Unless, More, Got, ReadSoFar, FirstRead, mode_taken}
+use Rattle.desk.specs.Input.{between, start, pending, Whole, Comes, no_line, lacks_line, Got, ReadSoFar, FirstRead, taking, mode_taken}
 use Rattle.desk.specs.Block.{numbers_of, row_for, most_of, rows_of, line_count, Takes, Reads, rows_answers, rows_leave, Answers}
-use Rattle.desk.specs.Output.{filled_to, failed_in, Gathers}
-use Rattle.desk.specs.Turn.{Printing, Desk, desk, still, Begins, Follows, stays, reads, Finished, Goes, Run, rests, Ran, Runs, Awaits}
+use Rattle.desk.specs.Output.{Gathered}
+use Rattle.desk.specs.Turn.{Desk, desk, still, Begins, Follows, stays, reads, Finished, Goes, Run, rests, Ran, Runs, Awaits}
 use Rattle.desk.specs.declared.State.{State}
 use Rattle.desk.specs.declared.block.Block.{Block}
 use Rattle.desk.specs.declared.input.Unread.{Unread}
 use Rattle.desk.specs.declared.input.Taken.{Taken}
-use Rattle.desk.specs.declared.output.Printed.{Printed}
-use Rattle.desk.specs.declared.output.Printed.TheVariants.{To, Failed}
 use Rattle.desk.proofs.AnswerLaws.{lines_rows, lines-leave}
-use Rattle.desk.proofs.Laws.{most-fits}
-use Rattle.desk.proofs.PendingLaws.{start-long, start_none, start-off, pending-lines, pending-taken, whole-taken, take_behind, none_left, unless_not}
+use Rattle.desk.proofs.Laws.{some≢none, most-fits}
+use Rattle.desk.proofs.PendingLaws.{start-long, start_none, start-off, pending-lines, pending-taken, whole-taken, take_behind, none_left}
 use Rattle.desk.proofs.ProgramLaws.{run-then, program-by-turns}
 
 -- ---- a wait
 
 pub awaits-end : (s : State) (input : List ℕ) (h : Head) → s.unread.ended ≡ true
-    → Awaits s input (record { head = h; unread = s.unread; filled = 0; going = false; failed = false }) input
+    → Awaits s input (record { head = h; unread = s.unread; filled = 0; going = false }) input
 awaits-end s input h e = record { came = []; sent = refl; rest = stays refl refl refl; stops = λ f. e }
 
 pub awaits-read : (s : State) (input : List ℕ) (h : Head) (u : Unread) (now : List ℕ) → s.unread.ended ≡ false → lines_in (pending s.unread input) ≡ []
-    → Got s.unread input u now
-    → Unless u.failed (Awaits s input (record { head = h; unread = u; filled = 0; going = not u.failed; failed = u.failed }) now)
-awaits-read s input h u now e n g = go u.failed refl g.more
-  where
-    going_on : {z : Bool} → u.failed ≡ z → not z ≡ true → not u.failed ≡ false → s.unread.ended ≡ true
-    going_on f t h = absurd (true≢false (sym t ∙ (ap not (sym f) ∙ h)))
-
-    go : (z : Bool) → u.failed ≡ z → Unless z (More s.unread input u now)
-        → Unless z (Awaits s input (record { head = h; unread = u; filled = 0; going = not u.failed; failed = u.failed }) now)
-    go true f m = tt
-    go false f m = record { came = m.came; sent = refl; rest = reads e n m.last m.bytes; stops = going_on f refl }
+    → Got s.unread input u now → Awaits s input (record { head = h; unread = u; filled = 0; going = true }) now
+awaits-read s input h u now e n g =
+    let m = g.more in
+    record { came = m.came; sent = refl; rest = reads e n m.last m.bytes; stops = λ h. absurd (true≢false h) }
 
 -- ---- a block's answers
 
@@ -63,22 +52,15 @@ joined-parts (suc k) [] = refl
 joined-parts (suc k) (x ∷ xs) = append_assoc x (joined (take k xs)) (joined (drop k xs)) ∙ ap (λ (y : List ℕ). x ++ y) (joined-parts k xs)
 
 -- the pieces that have gone, and those that the buffer holds
-pub printed-answers : (requests : List ℕ) (book : Book) (front : List ℕ) (pieces : List (List ℕ)) (s : State) (h : Head) (u : Unread) (p : Printed) (out : List ℕ)
-    → Printing s h u p → Gathers (front ∷ pieces) p out → joined pieces ≡ rows_answers requests book
-    → (t : Tables) → book_in h t ≡ rows_leave requests book → Unless s.failed (Answers requests book front (book_in s.head t) (take s.filled out))
+pub printed-answers : (requests : List ℕ) (book : Book) (front : List ℕ) (pieces : List (List ℕ)) (end : ℕ) (out : List ℕ) → Gathered (front ∷ pieces) end out
+    → joined pieces ≡ rows_answers requests book → (book' : Book) → book' ≡ rows_leave requests book → Answers requests book front book' (take end out)
 unfolding joined
-printed-answers requests book front pieces s h u p out r g e t f =
-    subst (λ (z : Bool). Unless z (Answers requests book front (book_in s.head t) (take s.filled out))) (sym r.failed≡) (go p r.filled≡ g)
-  where
-    go : (p : Printed) → s.filled ≡ filled_to p → Gathers (front ∷ pieces) p out → Unless (failed_in p) (Answers requests book front (book_in s.head t) (take s.filled out))
-    go (To end) n g =
-        record {
-          gone = joined (take g.gone (front ∷ pieces));
-          text = ap (λ (x : ℕ). joined (take g.gone (front ∷ pieces)) ++ take x out) n
-              ∙ (ap (λ (x : List ℕ). joined (take g.gone (front ∷ pieces)) ++ x) g.holds ∙ (joined-parts g.gone (front ∷ pieces) ∙ ap (λ (x : List ℕ). front ++ x) e));
-          book≡ = ap (λ (x : Head). book_in x t) r.head≡ ∙ f;
-        }
-    go Failed n g = tt
+printed-answers requests book front pieces end out g e book' f =
+    record {
+      gone = joined (take g.gone (front ∷ pieces));
+      text = ap (λ (x : List ℕ). joined (take g.gone (front ∷ pieces)) ++ x) g.holds ∙ (joined-parts g.gone (front ∷ pieces) ∙ ap (λ (x : List ℕ). front ++ x) e);
+      book≡ = f;
+    }
 
 -- ---- the lines of a block
 
@@ -145,10 +127,10 @@ module _ (s : State) (t : Tables) (input out : List ℕ) (last : Whole (pending 
     (r : Reads s.unread input b requests) where
   module _ (e : State) (t' : Tables) (now out' : List ℕ) where
     -- that waits
-    pub waits-goes : b.rows ≡ 0 → (w : State) → w.unread ≡ b.unread → e.head ≡ s.head → t' ≡ t → Unless e.failed (Awaits w input e now)
-        → Unless e.failed (Goes (desk s t input out) (desk e t' now out') e.going)
+    pub waits-goes : b.rows ≡ 0 → (w : State) → w.unread ≡ b.unread → e.head ≡ s.head → t' ≡ t → Awaits w input e now
+        → Goes (desk s t input out) (desk e t' now out') e.going
     unfolding leaves answers span
-    waits-goes z w wu h ts a = go e.failed a
+    waits-goes z w wu h ts a = goes a
       where
         same : pending w.unread input ≡ pending s.unread input
         same = ap (λ (x : Unread). pending x input) wu ∙ block_same s.unread input b requests r z
@@ -184,72 +166,48 @@ module _ (s : State) (t : Tables) (input out : List ℕ) (last : Whole (pending 
               stops = λ f. finished a (a.stops f) a.rest;
             }
 
-        go : (x : Bool) → Unless x (Awaits w input e now) → Unless x (Goes (desk s t input out) (desk e t' now out') e.going)
-        go true a = tt
-        go false a = goes a
-
     -- that answers
-    pub answers-goes : e.unread ≡ b.unread → now ≡ input → e.going ≡ not e.failed
-        → Unless e.failed (Answers (take (b.rows * 3) requests) (book_in s.head t) (take s.filled out) (book_in e.head t') (take e.filled out'))
-        → Unless e.failed (Goes (desk s t input out) (desk e t' now out') e.going)
-    answers-goes eu i g a = go e.failed refl a
-      where
-        goes : e.failed ≡ false → Answers (take (b.rows * 3) requests) (book_in s.head t) (take s.filled out) (book_in e.head t') (take e.filled out')
-            → Goes (desk s t input out) (desk e t' now out') e.going
-        goes f a =
-            record {
-              turned = record {
-                lines = b.rows;
-                came = [];
-                gone = a.gone;
-                book≡ = a.book≡ ∙ block-leaves s.unread input b requests r (book_in s.head t);
-                text = a.text ∙ ap (λ (x : List ℕ). take s.filled out ++ x) (block-answers s.unread input b requests r (book_in s.head t));
-                rest = stays refl (ap (λ (x : Unread). x.ended) eu ∙ r.ended≡)
-                    (ap₂ (λ (x : Unread) (y : List ℕ). pending x y) eu i ∙ block-left s.unread input b requests r);
-                takes = block-lacks s.unread input b requests r;
-              };
-              stops = λ h. absurd (true≢false (sym (ap not f) ∙ (sym g ∙ h)));
-            }
-
-        go : (x : Bool) → e.failed ≡ x → Unless x (Answers (take (b.rows * 3) requests) (book_in s.head t) (take s.filled out) (book_in e.head t') (take e.filled out'))
-            → Unless x (Goes (desk s t input out) (desk e t' now out') e.going)
-        go true f a = tt
-        go false f a = goes f a
+    pub answers-goes : e.unread ≡ b.unread → now ≡ input → e.going ≡ true
+        → Answers (take (b.rows * 3) requests) (book_in s.head t) (take s.filled out) (book_in e.head t') (take e.filled out')
+        → Goes (desk s t input out) (desk e t' now out') e.going
+    answers-goes eu i g a =
+        record {
+          turned = record {
+            lines = b.rows;
+            came = [];
+            gone = a.gone;
+            book≡ = a.book≡ ∙ block-leaves s.unread input b requests r (book_in s.head t);
+            text = a.text ∙ ap (λ (x : List ℕ). take s.filled out ++ x) (block-answers s.unread input b requests r (book_in s.head t));
+            rest = stays refl (ap (λ (x : Unread). x.ended) eu ∙ r.ended≡)
+                (ap₂ (λ (x : Unread) (y : List ℕ). pending x y) eu i ∙ block-left s.unread input b requests r);
+            takes = block-lacks s.unread input b requests r;
+          };
+          stops = λ h. absurd (true≢false (sym g ∙ h));
+        }
 
 -- ---- all turns
 
 -- the buffer holds nothing at the start
-pub ran-none : (s : State) (t : Tables) (input out : List ℕ) → s.filled ≡ 0 → s.going ≡ true → Unless s.failed (Ran (desk s t input []) (desk s t input out) s.going)
-ran-none s t input out e g = go s.failed
+pub ran-none : (s : State) (t : Tables) (input out : List ℕ) → s.filled ≡ 0 → s.going ≡ true → Ran (desk s t input []) (desk s t input out) s.going
+ran-none s t input out e g =
+    record {
+      came = [];
+      gone = [];
+      run = subst (λ (x : Desk). Run (desk s t input []) [] [] x) same rests;
+      stops = λ h. absurd (true≢false (sym g ∙ h));
+    }
   where
     same : desk s t input [] ≡ desk s t input out
     same = rw e
 
-    go : (z : Bool) → Unless z (Ran (desk s t input []) (desk s t input out) s.going)
-    go true = tt
-    go false =
-        record {
-          came = [];
-          gone = [];
-          run = subst (λ (x : Desk). Run (desk s t input []) [] [] x) same rests;
-          stops = λ h. absurd (true≢false (sym g ∙ h));
-        }
-
 -- one turn more
-pub ran-more : (d : Desk) (s : State) (e f : Desk) (failed going : Bool) → s.going ≡ true → (s.going ≡ true → s.failed ≡ false) → Unless s.failed (Ran d e s.going)
-    → Unless failed (Goes e f going) → Unless failed (Ran d f going)
-ran-more d s e f true going g w r t = tt
-ran-more d s e f false going g w r t =
-    let before : Ran d e s.going = unless_not (w g) r in
-    record { came = before.came ++ t.turned.came; gone = before.gone ++ t.turned.gone; run = run-then before.run t.turned; stops = t.stops }
+pub ran-more : (d e f : Desk) (before after : Bool) → Ran d e before → Goes e f after → Ran d f after
+ran-more d e f before after r t =
+    record { came = r.came ++ t.turned.came; gone = r.gone ++ t.turned.gone; run = run-then r.run t.turned; stops = t.stops }
 
 -- whatever the buffer holds
-pub ran-runs : (d : Desk) (s : State) (t : Tables) (input out : List ℕ) → Unless s.failed (Ran d (desk s t input out) s.going) → Unless s.failed (Runs d s t input)
-ran-runs d s t input out r = go s.failed r
-  where
-    go : (z : Bool) → Unless z (Ran d (desk s t input out) s.going) → Unless z (Runs d s t input)
-    go true r = tt
-    go false r = record { out = out; ran = r; prints = λ g first b. program-by-turns b r.run (r.stops g) }
+pub ran-runs : (d : Desk) (s : State) (t : Tables) (input out : List ℕ) → Ran d (desk s t input out) s.going → Runs d s t input
+ran-runs d s t input out r = record { out = out; ran = r; prints = λ g first b. program-by-turns b r.run (r.stops g) }
 
 -- ---- the first line
 
@@ -258,56 +216,57 @@ record Named (u : Unread) (input : List ℕ) (m : Mode) (v : Unread) : Type 0 wh
   line : List ℕ
   others : List (List ℕ)
   lines : lines_in (pending u input) ≡ line ∷ others
-  names : first_line line ≡ Of m
+  names : first_line line ≡ Some m
   left : pending v input ≡ drop (span (take 1 (lines_in (pending u input)))) (pending u input)
   ended : v.ended ≡ u.ended
 
-named : (u : Unread) (input : List ℕ) (m : Mode) (r : Taken) → r ≡ mode_taken u u.cut (lines_in (between u.from u.to input)) → r.first ≡ Of m
-    → Named u input m r.unread
+named : (u : Unread) (input : List ℕ) (r : Taken) → Some r ≡ mode_taken u u.cut (lines_in (between u.from u.to input)) → Named u input r.mode r.unread
 unfolding span
-named u input m r e f = go u.cut refl (lines_in (between u.from u.to input)) refl (sym (ap (λ (x : Taken). x.first) e) ∙ f) e
+named u input r e = go u.cut refl (lines_in (between u.from u.to input)) refl e
   where
-    never : firsts.Malformed ≡ Of m → ⊥
-    never p = let z : ◌≡◌ {A = ℕ} 0 1 = cc in omega arith
-
-    go : (z : Bool) → u.cut ≡ z → (ls : List (List ℕ)) → lines_in (between u.from u.to input) ≡ ls → (mode_taken u z ls).first ≡ Of m → r ≡ mode_taken u z ls
-        → Named u input m r.unread
-    go true c ls p q e = absurd (never q)
-    go false c [] p q e = absurd (never q)
-    go false c (l ∷ ls) p q e =
-        let v : r.unread ≡ (mode_taken u false (l ∷ ls)).unread = ap (λ (x : Taken). x.unread) e in
-        let far : u.from + length l + 1 ≡ u.from + span (take 1 (lines_in (between u.from u.to input))) =
-        omega arith ∙ ap (λ (x : List (List ℕ)). u.from + span (take 1 x)) (sym p) in
-        let some : lines_in (between u.from u.to input) ≡ [] → ◌≡◌ {A = ℕ} 1 0 = λ n. absurd (no_lines (sym p ∙ n)) in
-        record {
-          line = l;
-          others = ls;
-          lines = pending-lines u input ∙ (ap₂ (λ (x : Bool) (y : List (List ℕ)). behind (start x) y) c p ∙ ap (λ (x : List ℕ). (x ++ l) ∷ ls) start-off);
-          names = q;
-          left = pending-taken u input 1 some r.unread (ap (λ (x : Unread). x.from) v ∙ far) (ap (λ (x : Unread). x.to) v) (ap (λ (x : Unread). x.cut) v);
-          ended = ap (λ (x : Unread). x.ended) v;
-        }
+    go : (z : Bool) → u.cut ≡ z → (ls : List (List ℕ)) → lines_in (between u.from u.to input) ≡ ls → Some r ≡ mode_taken u z ls → Named u input r.mode r.unread
+    go true c ls p e = absurd (some≢none e)
+    go false c [] p e = absurd (some≢none e)
+    go false c (l ∷ ls) p e = which (first_line l) refl e
       where
         no_lines : l ∷ ls ≡ [] → ⊥
         no_lines p = let z : ◌≡◌ {A = ℕ} 0 1 = cc in omega arith
 
-module _ (u : Unread) (input : List ℕ) (o : ReadSoFar u input) (m : Mode) (r : Taken) (e : r ≡ mode_taken u u.cut (lines_in (between u.from u.to input)))
-    (f : r.first ≡ Of m) where
+        which : (o : Option Mode) → first_line l ≡ o → Some r ≡ taking u (u.from + length l + 1) o → Named u input r.mode r.unread
+        which None q e = absurd (some≢none e)
+        which (Some m) q e =
+            let v : Unread = record { from = u.from + length l + 1; to = u.to; cut = false; ended = u.ended } in
+            let is : r ≡ record { mode = m; unread = v } = cc in
+            let far : v.from ≡ u.from + span (take 1 (lines_in (between u.from u.to input))) =
+            omega arith ∙ ap (λ (x : List (List ℕ)). u.from + span (take 1 x)) (sym p) in
+            let some : lines_in (between u.from u.to input) ≡ [] → ◌≡◌ {A = ℕ} 1 0 = λ n. absurd (no_lines (sym p ∙ n)) in
+            rw is
+            (record {
+              line = l;
+              others = ls;
+              lines = pending-lines u input ∙ (ap₂ (λ (x : Bool) (y : List (List ℕ)). behind (start x) y) c p ∙ ap (λ (x : List ℕ). (x ++ l) ∷ ls) start-off);
+              names = q;
+              left = pending-taken u input 1 some v far refl refl;
+              ended = refl;
+            })
+
+module _ (u : Unread) (input : List ℕ) (o : ReadSoFar u input) (r : Taken) (e : Some r ≡ mode_taken u u.cut (lines_in (between u.from u.to input))) where
   pub mode-whole : Whole (pending r.unread input) r.unread.ended
   mode-whole h =
-      let n : Named u input m r.unread = named u input m r e f in
+      let n : Named u input r.mode r.unread = named u input r e in
       ap closed n.left ∙ (whole-taken u input 1 o.last (sym n.ended ∙ h) ∙ sym n.left)
 
   -- the turns begin with the empty book of that mode
-  pub mode-begins : (s : State) (t : Tables) (out : List ℕ) → s.head ≡ head_of (empty_book m.0) → s.unread ≡ r.unread → s.filled ≡ 0 → Begins o.came (desk s t input out)
+  pub mode-begins : (s : State) (t : Tables) (out : List ℕ) → s.head ≡ head_of (empty_book r.mode.0) → s.unread ≡ r.unread → s.filled ≡ 0
+      → Begins o.came (desk s t input out)
   unfolding still answered started fresh book_of
   mode-begins s t out hd un fi = record { same = begins }
     where
-      n : Named u input m r.unread
-      n = named u input m r e f
+      n : Named u input r.mode r.unread
+      n = named u input r e
 
-      book : book_in s.head t ≡ empty_book m.0
-      book = ap (λ (x : Head). book_in x t) hd ∙ fresh-book m.0 t
+      book : book_in s.head t ≡ empty_book r.mode.0
+      book = ap (λ (x : Head). book_in x t) hd ∙ fresh-book r.mode.0 t
 
       begins : (more : List ℕ) → Comes s.unread.ended more → program (o.came ++ more) ≡ still (desk s t input out) more
       begins more c =
@@ -318,24 +277,23 @@ module _ (u : Unread) (input : List ℕ) (o : ReadSoFar u input) (m : Mode) (r :
           o.same more (λ h. c (ended ∙ h))
           ∙ (ap answered (closed-taken 1 (pending u input) more)
           ∙ (ap (λ (x : List (List ℕ)). answered (take 1 x ++ rest)) n.lines
-          ∙ (ap (λ (x : First). started x rest) n.names
+          ∙ (ap (λ (x : Option Mode). started x rest) n.names
           ∙ (ap₂ (λ (x : List ℕ) (y : Book). answers (lines_in (closed (x ++ more))) y) here (sym book)
           ∙ ap (λ (k : ℕ). take k out ++ answers (lines_in (closed (pending s.unread input ++ more))) (book_in s.head t)) (sym fi)))))
 
   -- from there the turns print what the program prints for all that came
-  pub prints-program : (s : State) (t : Tables) → s.head ≡ head_of (empty_book m.0) → s.unread ≡ r.unread → s.filled ≡ 0 → {last : State} {t' : Tables} {now : List ℕ}
+  pub prints-program : (s : State) (t : Tables) → s.head ≡ head_of (empty_book r.mode.0) → s.unread ≡ r.unread → s.filled ≡ 0 → {last : State} {t' : Tables} {now : List ℕ}
       → (n : Runs (desk s t input []) last t' now) → last.going ≡ false → n.ran.gone ≡ program (o.came ++ n.ran.came)
   prints-program s t hd un fi n g = n.prints g o.came (mode-begins s t [] hd un fi)
 
 -- a first line that names no mode: `no 14`, whatever follows
-module _ (u : Unread) (input : List ℕ) (k : FirstRead u input) (r : Taken) (e : r ≡ mode_taken u u.cut (lines_in (between u.from u.to input)))
-    (f : r.first ≡ firsts.Malformed) where
+module _ (u : Unread) (input : List ℕ) (k : FirstRead u input) (e : None ≡ mode_taken u u.cut (lines_in (between u.from u.to input))) where
   abbrev o : ReadSoFar u input
   o = k.so_far
 
   pub prints-refusal : (more : List ℕ) → Comes u.ended more → program (o.came ++ more) ≡ no14
   unfolding pending answered started lacks_line no_line lines_in closed
-  prints-refusal more c = o.same more c ∙ go u.cut refl (lines_in mine) refl (sym (ap (λ (x : Taken). x.first) e) ∙ f)
+  prints-refusal more c = o.same more c ∙ go u.cut refl (lines_in mine) refl e
     where
       mine : List ℕ
       mine = between u.from u.to input
@@ -347,7 +305,11 @@ module _ (u : Unread) (input : List ℕ) (k : FirstRead u input) (r : Taken) (e 
       over true x y = x
       over false x y = absurd (true≢false (sym (ap₂ (λ (b : Bool) (ls : List (List ℕ)). not b && no_line ls) x y) ∙ k.found))
 
-      go : (z : Bool) → u.cut ≡ z → (ls : List (List ℕ)) → lines_in mine ≡ ls → (mode_taken u z ls).first ≡ firsts.Malformed
+      unnamed : (from : ℕ) (o : Option Mode) → None ≡ taking u from o → o ≡ None
+      unnamed from None q = refl
+      unnamed from (Some m) q = absurd (some≢none (sym q))
+
+      go : (z : Bool) → u.cut ≡ z → (ls : List (List ℕ)) → lines_in mine ≡ ls → None ≡ mode_taken u z ls
           → answered (lines_in (closed (pending u input ++ more))) ≡ no14
       go true c' ls p q =
           ap (λ (z : Bool). answered (lines_in (closed ((start z ++ mine) ++ more)))) c'
@@ -360,4 +322,5 @@ module _ (u : Unread) (input : List ℕ) (k : FirstRead u input) (r : Taken) (e 
       go false c' (l ∷ ls) p q =
           let rest : List (List ℕ) = lines_in (closed (drop (span (take 1 (lines_in (pending u input)))) (pending u input) ++ more)) in
           ap answered (closed-taken 1 (pending u input) more)
-          ∙ (ap (λ (x : List (List ℕ)). answered (take 1 x ++ rest)) (lines c' p ∙ ap (λ (x : List ℕ). (x ++ l) ∷ ls) start-off) ∙ ap (λ (x : First). started x rest) q)
+          ∙ (ap (λ (x : List (List ℕ)). answered (take 1 x ++ rest)) (lines c' p ∙ ap (λ (x : List ℕ). (x ++ l) ∷ ls) start-off)
+          ∙ ap (λ (x : Option Mode). started x rest) (unnamed (u.from + length l + 1) (first_line l) q))

@@ -6,75 +6,60 @@ use mathlib.Core.Bool.{Bool, true, false, cond}
 use mathlib.Core.List.{List, [], ◌∷◌, ◌++◌, append_assoc}
 use native.Mathlib.Omega.{arith}
 use lib.Dec.{ltb}
-use lib.ListN.{length, take, drop, get_or, length-append, length-take, length-drop}
+use lib.ListN.{length, take, drop, length-append, length-take, length-drop}
 use lib.Seq.{length-take-le, take_at}
 use borrow.Author.Tests.{ltb-true}
 use Rattle.rows.specs.Number.{stored}
 use Rattle.rules.specs.Lists.{first}
 use Rattle.lines.specs.Answer.{answer_text, room_for, writing, Written, put_answer}
-use Rattle.lines.specs.declared.answer.Put.{Put}
-use Rattle.lines.specs.declared.answer.Put.TheVariants.{To, Full}
-use Rattle.lines.proofs.Passed.{next}
 use Rattle.lines.specs.Request.{same, modes, mode_of, first_line}
-use Rattle.lines.specs.declared.request.First.{First}
-use Rattle.lines.specs.declared.request.First.TheVariants.{Of}
-use Rattle.lines.specs.declared.request.First.TheVariants as firsts
+use Rattle.rules.specs.declared.Mode.{Mode}
 use Rattle.lines.specs.declared.request.Asked.{Asked}
-use Rattle.lines.specs.declared.request.Line.{Line}
-use Rattle.lines.specs.declared.request.Line.TheVariants.{Asks, Malformed}
-use Rattle.desk.specs.Input.{Moded}
+use Rattle.std.specs.Prelude.{Option, Some, None, IsSome, Result, Ok, Err, IfOk}
+use Rattle.std.specs.Option.{unwrap_or}
 use Rattle.desk.specs.Block.{malformed, row_for, numbers_of, most_of, most_in}
-use Rattle.desk.specs.Output.{counts}
+
+pub some≢none : {A : Type 0} {x : A} → Some x ≡ None → ⊥
+some≢none e = let z : ◌≡◌ {A = ℕ} 0 1 = cc in omega arith
+
+pub some-by : {A : Type 0} (o : Option A) → (o ≡ None → ⊥) → IsSome o
+some-by None h = absurd (h refl)
+some-by (Some x) h = refl
+
+-- two facts of what a call answers
+pub ok-both : {T E : Type 0} (r : Result T E) (P Q S : T → Type 0) → ((x : T) → P x → Q x → S x) → IfOk r P → IfOk r Q → IfOk r S
+ok-both (Ok x) P Q S f p q = f x p q
+ok-both (Err e) P Q S f p q = tt
 
 -- what is stored at a place within a list ends within the list that is left
 pub stored-within : (at : ℕ) (bs t : List ℕ) → at ≤ length t → at + length bs ≤ length (stored at bs t)
 unfolding stored
 stored-within at bs t h = simp (length-append, length-take, length-drop) (omega arith)
 
-pub put-within : (number view : ℕ) (rows out : List ℕ) (at : ℕ) {p : Put} {end : ℕ} {now : List ℕ} → at ≤ length out → p ≡ To end
+pub put-within : (number view : ℕ) (rows out : List ℕ) (at : ℕ) {p : Option ℕ} {end : ℕ} {now : List ℕ} → at ≤ length out → p ≡ Some end
     → writing p now ≡ put_answer number view rows out at → end ≤ length now
 unfolding put_answer
-put-within number view rows out at {p} {end} {now} h e w = go (room_for rows at out) (ap (λ (x : Put). writing x now) (sym e) ∙ w)
+put-within number view rows out at {p} {end} {now} h e w = go (room_for rows at out) (ap (λ (x : Option ℕ). writing x now) (sym e) ∙ w)
   where
     text : List ℕ
     text = answer_text number view rows
 
-    go : (z : Bool) → writing (To end) now ≡ cond z (writing (To (at + length text)) (stored at text out)) (writing Full out) → end ≤ length now
+    go : (z : Bool) → writing (Some end) now ≡ cond z (writing (Some (at + length text)) (stored at text out)) (writing None out) → end ≤ length now
     go true p =
-        let a : To end ≡ To (at + length text) = ap (λ (w : Written). w.answer) p in
+        let a : Some end ≡ Some (at + length text) = ap (λ (w : Written). w.answer) p in
         let e : end ≡ at + length text = cc in
         let n : now ≡ stored at text out = ap (λ (w : Written). w.out) p in
         omega (arith, stored-within at text out h, ap length n)
-    go false p = absurd (never p)
-      where
-        never : writing (To end) now ≡ writing Full out → ⊥
-        never q =
-            let a : To end ≡ Full = ap (λ (w : Written). w.answer) q in
-            let z : ◌≡◌ {A = ℕ} 0 1 = cc in
-            omega arith
-
--- the row at a place, and those behind it
-pub row_next : (rows : List ℕ) (k : ℕ) → k + 3 ≤ length rows → drop k rows ≡ get_or rows k 0 ∷ get_or rows (k + 1) 0 ∷ get_or rows (k + 2) 0 ∷ drop (k + 3) rows
-row_next rows k h =
-    let two : k + 1 + 1 ≡ k + 2 = omega arith in
-    let three : k + 2 + 1 ≡ k + 3 = omega arith in
-    rw (next rows k (omega arith), next rows (k + 1) (omega arith), two, next rows (k + 2) (omega arith), three)
-
-pub counts-next : (rows : List ℕ) (k : ℕ) → k + 3 ≤ length rows → counts (drop k rows) ≡ get_or rows (k + 2) 0 + counts (drop (k + 3) rows)
-unfolding counts
-counts-next rows k h = ap counts (row_next rows k h)
+    go false p = let a : Some end ≡ None = ap (λ (w : Written). w.answer) p in absurd (some≢none a)
 
 -- ---- the row of a line
 
-module _ (cut : Bool) (l : Line) where
-  pub row_cut : cut ≡ true → malformed ≡ row_for cut l
-  row_cut e = rw e
+pub row_cut : (cut : Bool) (l : Option Asked) → cut ≡ true → malformed ≡ row_for cut l
+row_cut cut l e = rw e
 
-  pub row-asks : {q : Asked} {r : Line} → cut ≡ false → r ≡ Asks q → r ≡ l → q ≡ row_for cut l
-  row-asks e p f = rw (e, ← f, p)
-
-  pub row-bad : {r : Line} → cut ≡ false → r ≡ Malformed → r ≡ l → malformed ≡ row_for cut l
-  row-bad e p f = rw (e, ← f, p)
+pub row-asked : (cut : Bool) (l : Option Asked) → cut ≡ false → unwrap_or l malformed ≡ row_for cut l
+row-asked cut None e = rw e
+row-asked cut (Some q) e = rw e
 
 -- ---- the most order rows
 
@@ -125,15 +110,15 @@ most-more rows q l h =
 
 -- ---- the first line
 
-pub moded : (bs : List ℕ) {f : First} → f ≡ first_line bs → Moded f
+pub moded : (bs : List ℕ) {o : Option Mode} {m : Mode} → o ≡ first_line bs → o ≡ Some m → m.0 ≤ 1
 unfolding first_line mode_of
-moded bs {f} e = rw e (go (first (same bs) modes))
+moded bs {o} {m} e f = go (first (same bs) modes) (sym f ∙ e)
   where
-    go : (k : ℕ) → Moded (cond (ltb k 2) (Of (record { 0 = k })) firsts.Malformed)
-    go zero = omega arith
-    go (suc zero) = omega arith
-    go (suc (suc k)) = more (ltb (suc (suc k)) 2) refl
+    go : (k : ℕ) → Some m ≡ cond (ltb k 2) (Some (record { 0 = k })) None → m.0 ≤ 1
+    go zero e = let z : m ≡ record { 0 = 0 } = cc in rw z (omega arith)
+    go (suc zero) e = let z : m ≡ record { 0 = 1 } = cc in rw z (omega arith)
+    go (suc (suc k)) e = more (ltb (suc (suc k)) 2) refl e
       where
-        more : (z : Bool) → ltb (suc (suc k)) 2 ≡ z → Moded (cond z (Of (record { 0 = suc (suc k) })) firsts.Malformed)
-        more true e = omega (arith, ltb-true (suc (suc k)) 2 e)
-        more false e = tt
+        more : (z : Bool) → ltb (suc (suc k)) 2 ≡ z → Some m ≡ cond z (Some (record { 0 = suc (suc k) })) None → m.0 ≤ 1
+        more true e f = absurd (omega (arith, ltb-true (suc (suc k)) 2 e))
+        more false e f = absurd (some≢none f)

@@ -4,24 +4,26 @@ use Prim.Native.Nat.{ℕ, zero, suc, ◌+◌, ◌*◌, ◌-◌, ◌≤◌, ◌<�
 use mathlib.Core.Path.{◌≡◌, refl, sym, ap, ap₂, subst, ◌∙◌}
 use mathlib.Core.Bool.{Bool, true, false, cond}
 use mathlib.Core.List.{List, [], ◌∷◌, ◌++◌, append_assoc, append-nil}
-use native.Mathlib.Numerals.{add-one}
 use native.Mathlib.Omega.{arith}
 use lib.Dec.{eqb, leb, ltb}
-use lib.ListN.{length, take, drop, get_or, set, length-drop}
-use lib.Seq.{take-nil, take-take, take-suc, drop-drop, get_or-drop, length-take-le}
-use borrow.Author.Tests.{le-leb, lt-leb, ne_eqb}
+use lib.ListN.{length, take, drop, length-drop}
+use lib.Seq.{take-nil, take-take, drop-drop, length-take-le}
+use borrow.Author.Tests.{le-leb, lt-leb, ne_eqb, ltb-true, ltb-false}
 use Rattle.rows.specs.Number.{stored}
-use Rattle.rows.proofs.Laws.{stored-add, stored-first, stored-rest, length-stored}
+use Rattle.rows.proofs.Laws.{stored-first}
 use Rattle.rules.specs.Lists.{first}
 use Rattle.lines.specs.Request.{longer, line_asks, first_line}
-use Rattle.lines.specs.declared.request.First.{First}
-use Rattle.lines.specs.declared.request.First.TheVariants.{Malformed}
+use Rattle.std.specs.Prelude.{Option, Some, None, position}
+use Rattle.std.specs.List.{copy_within}
+use Rattle.rules.specs.declared.Mode.{Mode}
 use Rattle.lines.specs.declared.request.Asked.{Asked}
 use Rattle.lines.specs.Program.{newline, lines_in, span}
-use Rattle.desk.specs.Input.{between, Within, too_long, Keeps, mode_taken}
+use Rattle.desk.specs.Input.{between, Within, too_long, Keeps, taking, mode_taken}
 use Rattle.desk.specs.declared.input.Unread.{Unread}
 use Rattle.desk.specs.Block.{row_for, numbers_of, most_of, rows_of, line_count, Takes}
-use Rattle.lines.proofs.Putting.{put_byte}
+use Rattle.std.specs.List.{position_or_len}
+use Rattle.std.proofs.lemmas.List.Recursion.{is_position_or_len}
+use Rattle.desk.proofs.Laws.{some≢none}
 use Rattle.desk.proofs.PrintLaws.{taken-stored}
 
 -- ---- the next line of a text
@@ -163,23 +165,58 @@ module _ (cut₀ : Bool) (from₀ : ℕ) (ls₀ : List (List ℕ)) (rows room : 
       subst (λ (x : List ℕ). Takes 128 6144 cut₀ from₀ ls₀ (rows + 1 + k) x f c) list
       (subst (λ (x : ℕ). Takes 128 6144 cut₀ from₀ ls₀ x (take (rows * 3) requests ++ (numbers_of q ++ more)) f c) count whole)
 
--- ---- an unfinished line, byte by byte to the front
+-- ---- a part to the front
 
-pub front-more : (t : List ℕ) (from i : ℕ) {now : List ℕ} → from + i < length t → now ≡ stored 0 (take i (drop from t)) t
-    → set now i (get_or now (from + i) 0) ≡ stored 0 (take (i + 1) (drop from t)) t
-front-more t from i {now} h e =
-    let rest : List ℕ = drop from t in
-    let long : length (take i rest) ≡ i = length-take-le i rest (omega (arith, length-drop from t)) in
-    let whole : length now ≡ length t = ap length e ∙ length-stored 0 (take i rest) t (omega arith) in
-    let turned : from + i ≡ i + from = omega arith in
-    let untouched : drop i now ≡ drop i t = ap (λ (x : List ℕ). drop i x) e ∙ stored-rest i 0 (take i rest) t (omega arith) (omega arith) in
-    let byte : get_or now (from + i) 0 ≡ get_or rest i 0 =
-    ap (λ (n : ℕ). get_or now n 0) turned
-    ∙ (sym (get_or-drop i now from 0) ∙ (ap (λ (x : List ℕ). get_or x from 0) untouched ∙ (get_or-drop i t from 0 ∙ (ap (λ (n : ℕ). get_or t n 0) (sym turned) ∙ sym (get_or-drop from t i 0))))) in
-    let one : take (i + 1) rest ≡ take i rest ++ (get_or rest i 0 ∷ []) = ap (λ (n : ℕ). take n rest) (add-one i) ∙ take-suc rest i 0 (omega (arith, length-drop from t)) in
-    (put_byte (get_or now (from + i) 0) i now (omega arith)).holds
-    ∙ (ap₂ (λ (b : ℕ) (x : List ℕ). stored i (b ∷ []) x) byte e
-    ∙ (stored-add 0 (take i rest) (get_or rest i 0 ∷ []) t i (omega arith) (omega arith) ∙ ap (λ (x : List ℕ). stored 0 x t) (sym one)))
+pub to-front : (input : List ℕ) (from to : ℕ) (now : List ℕ) → from ≤ to → to ≤ length input → now ≡ copy_within input from to 0 → now ≡ stored 0 (between from to input) input
+unfolding stored
+to-front input from to now o i e =
+    let part : List ℕ = between from to input in
+    let long : length part ≡ to - from = length-take-le (to - from) (drop from input) (omega (arith, length-drop from input)) in
+    e ∙ ap (λ (n : ℕ). part ++ drop (0 + n) input) (sym long)
+
+-- ---- where the next line ends
+
+first_is : (xs : List ℕ) → first newline xs ≡ position_or_len newline xs
+unfolding first
+first_is xs = is_position_or_len (first newline) newline refl (λ x ys. ap (λ (n : ℕ). cond (newline x) 0 n) (omega arith)) xs
+
+module _ (xs : List ℕ) where
+  found : position newline xs ≡ cond (ltb (first newline xs) (length xs)) (Some (first newline xs)) None
+  found = ap (λ (n : ℕ). cond (ltb n (length xs)) (Some n) None) (sym (first_is xs))
+
+  pub end-found : {k : ℕ} → Some k ≡ position newline xs → (k ≡ first newline xs) × (k < length xs)
+  end-found {k} e = go (ltb (first newline xs) (length xs)) refl (e ∙ found)
+    where
+      go : (z : Bool) → ltb (first newline xs) (length xs) ≡ z → Some k ≡ cond z (Some (first newline xs)) None → (k ≡ first newline xs) × (k < length xs)
+      go true l f = let s : k ≡ first newline xs = cc in (s, omega (arith, s, ltb-true (first newline xs) (length xs) l))
+      go false l f = absurd (some≢none f)
+
+  pub end-none : None ≡ position newline xs → length xs ≤ first newline xs
+  end-none e = go (ltb (first newline xs) (length xs)) refl (e ∙ found)
+    where
+      go : (z : Bool) → ltb (first newline xs) (length xs) ≡ z → None ≡ cond z (Some (first newline xs)) None → length xs ≤ first newline xs
+      go true l f = absurd (some≢none (sym f))
+      go false l f = ltb-false (first newline xs) (length xs) l
+
+-- of a part of the input
+module _ (input : List ℕ) (from to : ℕ) (o : from ≤ to) (i : to ≤ length input) where
+  pub no-line : None ≡ position newline (between from to input) → lines_in (between from to input) ≡ []
+  no-line e =
+      part_none input from to (first newline (between from to input)) o i refl
+      (omega (arith, end-none (between from to input) e, part-long input from to (first newline (between from to input)) o i refl))
+
+  module _ {k : ℕ} (e : Some k ≡ position newline (between from to input)) where
+    stands : k ≡ first newline (between from to input)
+    stands = (end-found (between from to input) e).0
+
+    pub line-inside : k < to - from
+    line-inside = omega (arith, (end-found (between from to input) e).1, part-long input from to k o i stands)
+
+    pub line-next : lines_in (between from to input) ≡ between from (from + k) input ∷ lines_in (between (from + k + 1) to input)
+    line-next = part-next input from to k o i stands line-inside
+
+    pub line-length : length (between from (from + k) input) ≡ k
+    line-length = line-long input from to k o i stands line-inside
 
 -- ---- what is kept of it
 
@@ -193,11 +230,11 @@ module _ (u : Unread) where
   long-by e f = rw e f
 
 module _ (u : Unread) (input : List ℕ) where
-  pub keeps-none : too_long u ≡ true → (now : List ℕ) → Keeps u input (record { from = 0; to = 0; cut = true; ended = false; failed = false }) now
+  pub keeps-none : too_long u ≡ true → (now : List ℕ) → Keeps u input (record { from = 0; to = 0; cut = true; ended = false }) now
   keeps-none e now = record { marked = rw e; bytes = rw e }
 
   pub keeps-all : too_long u ≡ false → Within u input → {n : ℕ} {now : List ℕ} → n ≡ u.to - u.from → now ≡ stored 0 (between u.from u.to input) input
-      → Keeps u input (record { from = 0; to = n; cut = false; ended = false; failed = false }) now
+      → Keeps u input (record { from = 0; to = n; cut = false; ended = false }) now
   keeps-all e w {n} {now} k f =
       let part : List ℕ = between u.from u.to input in
       let long : n ≡ length part = k ∙ sym (part-long input u.from u.to (first newline part) w.ordered w.inside refl) in
@@ -209,14 +246,13 @@ module _ (u : Unread) (input : List ℕ) where
 -- ---- the first line
 
 module _ (u : Unread) where
-  pub mode-cut : u.cut ≡ true → (ls : List (List ℕ)) → record { first = Malformed; unread = u } ≡ mode_taken u u.cut ls
+  pub mode-cut : u.cut ≡ true → (ls : List (List ℕ)) → None ≡ mode_taken u u.cut ls
   mode-cut e ls = ap (λ (z : Bool). mode_taken u z ls) (sym e)
 
-  pub mode-none : {ls : List (List ℕ)} → u.cut ≡ false → ls ≡ [] → record { first = Malformed; unread = u } ≡ mode_taken u u.cut ls
+  pub mode-none : {ls : List (List ℕ)} → u.cut ≡ false → ls ≡ [] → None ≡ mode_taken u u.cut ls
   mode-none e p = ap₂ (λ (z : Bool) (x : List (List ℕ)). mode_taken u z x) (sym e) (sym p)
 
-  pub mode_of : {l : List ℕ} {ls ls' : List (List ℕ)} {f : First} {end : ℕ} → u.cut ≡ false → ls ≡ l ∷ ls' → f ≡ first_line l → end ≡ u.from + length l + 1
-      → record { first = f; unread = record { from = end; to = u.to; cut = false; ended = u.ended; failed = u.failed } } ≡ mode_taken u u.cut ls
-  mode_of {l} {ls} {ls'} {f} {end} e p q d =
-      ap₂ (λ (x : First) (n : ℕ). record { first = x; unread = record { from = n; to = u.to; cut = false; ended = u.ended; failed = u.failed } }) q d
-      ∙ ap₂ (λ (z : Bool) (x : List (List ℕ)). mode_taken u z x) (sym e) (sym p)
+  pub mode_of : {l : List ℕ} {ls ls' : List (List ℕ)} {o : Option Mode} {end : ℕ} → u.cut ≡ false → ls ≡ l ∷ ls' → o ≡ first_line l → end ≡ u.from + length l + 1
+      → taking u end o ≡ mode_taken u u.cut ls
+  mode_of {l} {ls} {ls'} {o} {end} e p q d =
+      ap₂ (λ (x : Option Mode) (n : ℕ). taking u n x) q d ∙ ap₂ (λ (z : Bool) (x : List (List ℕ)). mode_taken u z x) (sym e) (sym p)

@@ -1,7 +1,7 @@
 -- The input that was read and is not yet taken: what is kept of it, and what is left of it behind lines.
 -- Assumes nothing.
 use Prim.Native.Nat.{ℕ, zero, suc, ◌+◌, ◌-◌, ◌≤◌, ◌<◌}
-use mathlib.Core.Path.{◌≡◌, refl, sym, ap, ap₂, subst, ◌∙◌}
+use mathlib.Core.Path.{◌≡◌, refl, sym, ap, ap₂, ◌∙◌}
 use mathlib.Core.Bool.{Bool, true, false, cond, ◌&&◌, ◌||◌, not, true≢false}
 use mathlib.Core.List.{List, [], ◌∷◌, ◌++◌, append_assoc, append-nil}
 use mathlib.Core.Logic.{◌⊎◌, inl, inr}
@@ -10,15 +10,16 @@ use native.Mathlib.Omega.{arith}
 use lib.Dec.{eqb, ltb}
 use lib.ListN.{length, replicate, take, drop, set, length-append, length-drop}
 use lib.Seq.{drop-drop, drop_at, take-add, take-suc-set, length-take-le}
-use borrow.Author.Tests.{eqb-true, eqb-false, ltb-true, ltb-false, lt-ltb, le-ltb, ne_eqb}
-use Rattle.rules.specs.Lists.{first}
+use borrow.Author.Tests.{ltb-true, ltb-false, lt-ltb, le-ltb, ne_eqb}
+use Rattle.std.specs.Prelude.{Option, Some, None, position}
+use Rattle.std.specs.Option.{is_none}
 use Rattle.rules.specs.Book.{Book}
 use Rattle.lines.specs.Request.{longer}
 use Rattle.lines.specs.Program.{newline, lines_in, closed, span, answers, answered, program}
 use Rattle.lines.proofs.ProgramLaws.{behind, start-lines, start-closed, closed-left, closed-twice, long-start, long-first}
-use Rattle.desk.specs.Input.{between, Within, start, pending, Whole, Comes, no_line, lacks_line, kept, Unless, More, Got, ReadSoFar, FirstRead, too_long, Kept, Keeps, Ends}
+use Rattle.desk.specs.Input.{between, Within, start, pending, Whole, Comes, no_line, lacks_line, kept, Got, ReadSoFar, too_long, Kept, Keeps, Ends}
 use Rattle.desk.specs.declared.input.Unread.{Unread}
-use Rattle.desk.proofs.LineLaws.{drop-take, part-long, part-next, part_none}
+use Rattle.desk.proofs.LineLaws.{drop-take, no-line, line-next}
 
 -- ---- a start that was dropped
 
@@ -147,7 +148,7 @@ module _ (u : Unread) (input : List ℕ) where
       short false e h = (e, le-ltb 512 (length (start u.cut ++ mine)) (omega (arith, long, ap (λ (z : Bool). length (start z)) e, ap length start-off, ltb-false 512 (u.to - u.from) h)))
 
       go : (z : Bool) → too_long u ≡ z
-          → r ≡ cond z (record { from = 0; to = 0; cut = true; ended = false; failed = false }) (record { from = 0; to = u.to - u.from; cut = false; ended = false; failed = false })
+          → r ≡ cond z (record { from = 0; to = 0; cut = true; ended = false }) (record { from = 0; to = u.to - u.from; cut = false; ended = false })
           → take r.to now ≡ cond z [] mine
           → start r.cut ++ between r.from r.to now ≡ cond (ltb 512 (length (start u.cut ++ mine))) (start true) (start u.cut ++ mine)
       go true e m bs = rw (m, too-long u.cut refl e) (append-nil (start true))
@@ -161,7 +162,7 @@ module _ (u : Unread) (input : List ℕ) where
     front = omega (arith, k.front)
 
     -- nothing is left
-    pub end_empty : u.to ≡ 0 → u.cut ≡ false → pending (record { from = 0; to = 0; cut = false; ended = true; failed = false }) input ≡ closed (pending u input)
+    pub end_empty : u.to ≡ 0 → u.cut ≡ false → pending (record { from = 0; to = 0; cut = false; ended = true }) input ≡ closed (pending u input)
     unfolding pending start closed
     end_empty t c = rw (front, t, c)
 
@@ -175,7 +176,7 @@ module _ (u : Unread) (input : List ℕ) where
 
     -- the newline that the last line lacks
     pub end_line : 0 < length (pending u input) → u.to < length input → lines_in (pending u input) ≡ []
-        → pending (record { from = 0; to = u.to + 1; cut = u.cut; ended = true; failed = false }) (set input u.to 10) ≡ closed (pending u input)
+        → pending (record { from = 0; to = u.to + 1; cut = u.cut; ended = true }) (set input u.to 10) ≡ closed (pending u input)
     unfolding pending
     end_line h l n =
         let here : between u.from u.to input ≡ take u.to input = ap (λ (m : ℕ). between m u.to input) front ∙ front-part u.to input in
@@ -214,17 +215,15 @@ module _ (u : Unread) (input : List ℕ) (w : Within u input) (n : lines_in (pen
       record {
         within = i;
         last = λ h. ap closed e.bytes ∙ (closed-twice (pending k now) ∙ sym e.bytes);
-        over = λ h. e.ended;
-        more = subst (λ (z : Bool). Unless z (More u input r fin)) (sym e.failed)
-            (record {
-              came = [];
-              last = λ h. refl;
-              bytes = e.bytes ∙ (ap closed again ∙ sym (ap (λ (z : Bool). cond z (closed (kept (pending u input))) (kept (pending u input) ++ [])) e.ended));
-            });
+        more = record {
+          came = [];
+          last = λ h. refl;
+          bytes = e.bytes ∙ (ap closed again ∙ sym (ap (λ (z : Bool). cond z (closed (kept (pending u input))) (kept (pending u input) ++ [])) e.ended));
+        };
       }
 
   -- some bytes
-  pub got-some : (m : ℕ) → k.to + m ≤ length now → Got u input (record { from = 0; to = k.to + m; cut = k.cut; ended = false; failed = false }) now
+  pub got-some : (m : ℕ) → k.to + m ≤ length now → Got u input (record { from = 0; to = k.to + m; cut = k.cut; ended = false }) now
   unfolding pending
   got-some m l =
       let zero' : k.from ≡ 0 = omega (arith, p.front) in
@@ -233,7 +232,6 @@ module _ (u : Unread) (input : List ℕ) (w : Within u input) (n : lines_in (pen
       record {
         within = record { ordered = omega arith; inside = l };
         last = λ h. absurd (true≢false (sym h));
-        over = λ h. absurd (true≢false (sym h));
         more = record {
           came = take m (drop k.to now);
           last = λ h. absurd (true≢false (sym h));
@@ -242,12 +240,6 @@ module _ (u : Unread) (input : List ℕ) (w : Within u input) (n : lines_in (pen
         };
       }
 
--- a read that failed
-pub got-failed : (u : Unread) (input : List ℕ) {r : Unread} (now : List ℕ) → r ≡ record { from = 0; to = 0; cut = false; ended = true; failed = true } → Got u input r now
-unfolding pending start closed
-got-failed u input now e =
-    rw e (record { within = record { ordered = omega arith; inside = omega arith }; last = λ h. refl; over = λ h. refl; more = tt })
-
 -- ---- the first line
 
 module _ (u : Unread) (input : List ℕ) where
@@ -255,24 +247,21 @@ module _ (u : Unread) (input : List ℕ) where
   unfolding lacks_line
   lacks-ended e = rw e
 
-  module _ (w : Within u input) (k : ℕ) (f : k ≡ first newline (between u.from u.to input)) (i : k ≤ length (between u.from u.to input)) where
-    pub lacks-whole : u.ended ≡ false → eqb k (u.to - u.from) ≡ lacks_line u input
-    unfolding lacks_line no_line
-    lacks-whole e =
-        go (eqb k (u.to - u.from)) refl
-        ∙ (ap no_line (sym (pending-lines u input)) ∙ ap (λ (z : Bool). not z && no_line (lines_in (pending u input))) (sym e))
-      where
-        empty : (ls : List (List ℕ)) → ls ≡ [] → no_line (behind (start u.cut) ls) ≡ true
-        empty ls e = rw e
+  module _ (w : Within u input) (e : u.ended ≡ false) where
+    abbrev mine : List ℕ
+    mine = between u.from u.to input
 
-        there : {l : List ℕ} (ls : List (List ℕ)) {ms : List (List ℕ)} → ls ≡ l ∷ ms → no_line (behind (start u.cut) ls) ≡ false
-        there ls e = rw e
+    lacks-by : no_line (behind (start u.cut) (lines_in mine)) ≡ lacks_line u input
+    unfolding lacks_line
+    lacks-by = ap no_line (sym (pending-lines u input)) ∙ ap (λ (z : Bool). not z && no_line (lines_in (pending u input))) (sym e)
 
-        go : (z : Bool) → eqb k (u.to - u.from) ≡ z → z ≡ no_line (behind (start u.cut) (lines_in (between u.from u.to input)))
-        go true e = sym (empty _ (part_none input u.from u.to k w.ordered w.inside f (omega (arith, eqb-true k (u.to - u.from) e))))
-        go false e =
-            sym (there _ (part-next input u.from u.to k w.ordered w.inside f
-            (omega (arith, eqb-false k (u.to - u.from) e, i, part-long input u.from u.to k w.ordered w.inside f))))
+    -- by where the first newline stands
+    pub lacks-whole : (o : Option ℕ) → o ≡ position newline mine → is_none o ≡ lacks_line u input
+    unfolding no_line
+    lacks-whole None f =
+        sym (ap (λ (ls : List (List ℕ)). no_line (behind (start u.cut) ls)) (no-line input u.from u.to w.ordered w.inside f)) ∙ lacks-by
+    lacks-whole (Some k) f =
+        sym (ap (λ (ls : List (List ℕ)). no_line (behind (start u.cut) ls)) (line-next input u.from u.to w.ordered w.inside f)) ∙ lacks-by
 
   pub lacks-none : lacks_line u input ≡ true → (u.ended ≡ false) × (lines_in (pending u input) ≡ [])
   unfolding lacks_line no_line
@@ -288,50 +277,22 @@ pub none_left : (w : List ℕ) → lines_in w ≡ [] → closed w ≡ w → w �
 none_left [] e h = refl
 none_left (c ∷ cs) e h = absurd (omega (arith, length-append (c ∷ cs) (10 ∷ []), ap length (sym (unfinished-closed (c ∷ cs) (omega arith) e) ∙ h)))
 
--- nothing failed
-pub unless_not : {z : Bool} {P : Type 0} → z ≡ false → Unless z P → P
-unless_not {z} {P} e p = subst (λ (x : Bool). Unless x P) e p
-
 -- nothing is read yet
-pub so-far-none : (input : List ℕ) → ReadSoFar (record { from = 0; to = 0; cut = false; ended = false; failed = false }) input
+pub so-far-none : (input : List ℕ) → ReadSoFar (record { from = 0; to = 0; cut = false; ended = false }) input
 unfolding pending start program
 so-far-none input = record { came = []; same = λ more h. refl; last = λ h. absurd (true≢false (sym h)) }
 
 -- one read more
-pub so_far_more : (u : Unread) (input : List ℕ) (r : Unread) (now : List ℕ) → ReadSoFar u input → lacks_line u input ≡ true → Got u input r now → Unless r.failed (ReadSoFar r now)
-so_far_more u input r now o h g = go r.failed g.more
-  where
-    more' : More u input r now → ReadSoFar r now
-    more' m =
-        let (ended, none') = lacks-none u input h in
-        record {
-          came = o.came ++ m.came;
-          same = λ more c.
-              ap program (append_assoc o.came m.came more)
-              ∙ (o.same (m.came ++ more) (λ e. absurd (true≢false (sym e ∙ ended)))
-              ∙ (kept-answered (pending u input) none' (m.came ++ more)
-              ∙ ap (λ (x : List ℕ). answered (lines_in x)) (read-closed (pending u input) m.came (pending r now) more r.ended c m.last m.bytes)));
-          last = g.last;
-        }
-
-    go : (z : Bool) → Unless z (More u input r now) → Unless z (ReadSoFar r now)
-    go true m = tt
-    go false m = more' m
-
-pub so-far-again : (u : Unread) (input : List ℕ) (r : Unread) (now : List ℕ) → (u.failed ≡ true → u.ended ≡ true) → Unless u.failed (ReadSoFar u input)
-    → lacks_line u input ≡ true → Got u input r now → Unless r.failed (ReadSoFar r now)
-so-far-again u input r now f o h g = go u.failed refl o
-  where
-    go : (z : Bool) → u.failed ≡ z → Unless z (ReadSoFar u input) → Unless r.failed (ReadSoFar r now)
-    go true e o = absurd (true≢false (sym (f e) ∙ (lacks-none u input h).0))
-    go false e o = so_far_more u input r now o h g
-
-pub first_read : (u : Unread) (input : List ℕ) → Unless u.failed (ReadSoFar u input) → lacks_line u input ≡ false → Unless u.failed (FirstRead u input)
-first_read u input o f = go u.failed o
-  where
-    go : (z : Bool) → Unless z (ReadSoFar u input) → Unless z (FirstRead u input)
-    go true o = tt
-    go false o = record { so_far = o; found = f }
-
-pub first-failed : {r : Unread} (now : List ℕ) → r ≡ record { from = 0; to = 0; cut = false; ended = true; failed = true } → Within r now × Unless r.failed (FirstRead r now)
-first-failed now e = rw e (record { ordered = omega arith; inside = omega arith }, tt)
+pub so_far_more : (u : Unread) (input : List ℕ) (r : Unread) (now : List ℕ) → ReadSoFar u input → lacks_line u input ≡ true → Got u input r now → ReadSoFar r now
+so_far_more u input r now o h g =
+    let m = g.more in
+    let (ended, none') = lacks-none u input h in
+    record {
+      came = o.came ++ m.came;
+      same = λ more c.
+          ap program (append_assoc o.came m.came more)
+          ∙ (o.same (m.came ++ more) (λ e. absurd (true≢false (sym e ∙ ended)))
+          ∙ (kept-answered (pending u input) none' (m.came ++ more)
+          ∙ ap (λ (x : List ℕ). answered (lines_in x)) (read-closed (pending u input) m.came (pending r now) more r.ended c m.last m.bytes)));
+      last = g.last;
+    }

@@ -6,20 +6,16 @@ use mathlib.Core.Bool.{Bool, true, false, cond, ◌&&◌, true≢false}
 use mathlib.Core.List.{List, [], ◌∷◌, ◌++◌, append_assoc, append-nil}
 use native.Mathlib.Omega.{arith}
 use lib.Dec.{leb}
-use lib.ListN.{length, take, drop, get_or, length-append, length-take, length-drop}
-use lib.Seq.{take_at, drop-drop}
+use lib.ListN.{length, take, drop, get_or, length-append, length-take}
+use lib.Seq.{take_at}
 use borrow.Author.Tests.{leb-true, le-leb}
 use Rattle.sets.proofs.Laws.{both}
 use Rattle.rows.specs.Number.{stored, joined}
 use Rattle.rows.proofs.Laws.{stored-first}
 use Rattle.lines.specs.Answer.{answer_text, room_for, writing, Written, put_answer}
-use Rattle.lines.specs.declared.answer.Put.{Put}
-use Rattle.lines.specs.declared.answer.Put.TheVariants as put
-use Rattle.lines.proofs.Passed.{next}
-use Rattle.desk.specs.Output.{never_more, longest, told, Gathering, gathering, print_answer, texts, Gathered, most_orders}
-use Rattle.desk.specs.declared.output.Printed.{Printed}
-use Rattle.desk.specs.declared.output.Printed.TheVariants.{To, Failed}
-use Rattle.desk.proofs.Laws.{row_next}
+use Rattle.std.specs.Prelude.{Option, Some, None}
+use Rattle.desk.specs.Output.{counts, never_more, longest, told, Gathering, gathering, print_answer, texts, Gathered, most_orders}
+use Rattle.desk.proofs.Laws.{some≢none}
 
 -- ---- one answer
 
@@ -33,70 +29,68 @@ module _ (number view : ℕ) (rows : List ℕ) where
     ends : end ≡ at + length text
     holds : now ≡ stored at text out
 
-  put-room : {out now : List ℕ} {at end : ℕ} → writing (put.To end) now ≡ put_answer number view rows out at → Room out at end now
+  put-room : {out now : List ℕ} {at end : ℕ} → writing (Some end) now ≡ put_answer number view rows out at → Room out at end now
   unfolding put_answer
   put-room {out} {now} {at} {end} p = go (room_for rows at out) refl p
     where
-      go : (z : Bool) → room_for rows at out ≡ z → writing (put.To end) now ≡ cond z (writing (put.To (at + length text)) (stored at text out)) (writing put.Full out) → Room out at end now
+      go : (z : Bool) → room_for rows at out ≡ z → writing (Some end) now ≡ cond z (writing (Some (at + length text)) (stored at text out)) (writing None out) → Room out at end now
       go true r p =
-          let a : put.To end ≡ put.To (at + length text) = ap (λ (w : Written). w.answer) p in
+          let a : Some end ≡ Some (at + length text) = ap (λ (w : Written). w.answer) p in
           record { room = r; ends = cc; holds = ap (λ (w : Written). w.out) p }
       go false r p = absurd (never p)
         where
-          never : writing (put.To end) now ≡ writing put.Full out → ⊥
+          never : writing (Some end) now ≡ writing None out → ⊥
           never q =
-              let a : put.To end ≡ put.Full = ap (λ (w : Written). w.answer) q in
-              let z : ◌≡◌ {A = ℕ} 0 1 = cc in
-              omega arith
+              let a : Some end ≡ None = ap (λ (w : Written). w.answer) q in
+              some≢none a
 
   -- there was none
   record Full (out : List ℕ) (at : ℕ) (now : List ℕ) : Type 0 where
     room : room_for rows at out ≡ false
     same : now ≡ out
 
-  put_full : {out now : List ℕ} {at : ℕ} → writing put.Full now ≡ put_answer number view rows out at → Full out at now
+  put_full : {out now : List ℕ} {at : ℕ} → writing None now ≡ put_answer number view rows out at → Full out at now
   unfolding put_answer
   put_full {out} {now} {at} p = go (room_for rows at out) refl p
     where
-      go : (z : Bool) → room_for rows at out ≡ z → writing put.Full now ≡ cond z (writing (put.To (at + length text)) (stored at text out)) (writing put.Full out) → Full out at now
+      go : (z : Bool) → room_for rows at out ≡ z → writing None now ≡ cond z (writing (Some (at + length text)) (stored at text out)) (writing None out) → Full out at now
       go true r p = absurd (never p)
         where
-          never : writing put.Full now ≡ writing (put.To (at + length text)) (stored at text out) → ⊥
+          never : writing None now ≡ writing (Some (at + length text)) (stored at text out) → ⊥
           never q =
-              let a : put.Full ≡ put.To (at + length text) = ap (λ (w : Written). w.answer) q in
-              let z : ◌≡◌ {A = ℕ} 0 1 = cc in
-              omega arith
+              let a : None ≡ Some (at + length text) = ap (λ (w : Written). w.answer) q in
+              some≢none (sym a)
       go false r p = record { room = r; same = ap (λ (w : Written). w.out) p }
 
   module _ (out : List ℕ) (at : ℕ) where
     -- behind those gathered
-    pub print-behind : {p : Put} {end : ℕ} {now : List ℕ} → p ≡ put.To end → writing p now ≡ put_answer number view rows out at → gathering (To end) now ≡ print_answer true number view rows out at
+    pub print-behind : {p : Option ℕ} {end : ℕ} {now : List ℕ} → p ≡ Some end → writing p now ≡ put_answer number view rows out at → gathering (Some end) now ≡ print_answer true number view rows out at
     unfolding print_answer
     print-behind {p} {end} {now} e w =
-        let r : Room out at end now = put-room (ap (λ (x : Put). writing x now) (sym e) ∙ w) in
+        let r : Room out at end now = put-room (ap (λ (x : Option ℕ). writing x now) (sym e) ∙ w) in
         rw (r.room, r.ends, r.holds)
 
-    module _ {p : Put} {mid : List ℕ} (e : p ≡ put.Full) (w : writing p mid ≡ put_answer number view rows out at) where
+    module _ {p : Option ℕ} {mid : List ℕ} (e : p ≡ None) (w : writing p mid ≡ put_answer number view rows out at) where
       none : Full out at mid
-      none = put_full (ap (λ (x : Put). writing x mid) (sym e) ∙ w)
+      none = put_full (ap (λ (x : Option ℕ). writing x mid) (sym e) ∙ w)
 
       -- those could not be written out
-      pub print-stuck : gathering Failed mid ≡ print_answer false number view rows out at
+      pub print-stuck : gathering None mid ≡ print_answer false number view rows out at
       unfolding print_answer
       print-stuck = rw (none.room, none.same)
 
       -- at the front
-      pub print-front : {q : Put} {end : ℕ} {now : List ℕ} → q ≡ put.To end → writing q now ≡ put_answer number view rows mid 0 → gathering (To end) now ≡ print_answer true number view rows out at
+      pub print-front : {q : Option ℕ} {end : ℕ} {now : List ℕ} → q ≡ Some end → writing q now ≡ put_answer number view rows mid 0 → gathering (Some end) now ≡ print_answer true number view rows out at
       unfolding print_answer
       print-front {q} {end} {now} f v =
-          let r : Room out 0 end now = put-room (ap (λ (x : Put). writing x now) (sym f) ∙ v ∙ ap (λ (x : List ℕ). put_answer number view rows x 0) none.same) in
+          let r : Room out 0 end now = put-room (ap (λ (x : Option ℕ). writing x now) (sym f) ∙ v ∙ ap (λ (x : List ℕ). put_answer number view rows x 0) none.same) in
           let ends : end ≡ length text = omega (arith, r.ends) in
           rw (none.room, ends, r.holds)
 
       -- it has room at the front
-      pub print-never : room_for rows 0 out ≡ true → {q : Put} {now : List ℕ} → q ≡ put.Full → writing q now ≡ put_answer number view rows mid 0 → ⊥
+      pub print-never : room_for rows 0 out ≡ true → {q : Option ℕ} {now : List ℕ} → q ≡ None → writing q now ≡ put_answer number view rows mid 0 → ⊥
       print-never k {q} {now} f v =
-          let r : Full out 0 now = put_full (ap (λ (x : Put). writing x now) (sym f) ∙ v ∙ ap (λ (x : List ℕ). put_answer number view rows x 0) none.same) in
+          let r : Full out 0 now = put_full (ap (λ (x : Option ℕ). writing x now) (sym f) ∙ v ∙ ap (λ (x : List ℕ). put_answer number view rows x 0) none.same) in
           true≢false (sym k ∙ r.room)
 
 -- ---- the pieces that a block gathers
@@ -129,95 +123,106 @@ taken-stored at bs t h =
 
 -- one answer more
 module _ (number view : ℕ) (rows out : List ℕ) (at : ℕ) (written : Bool) (h : at ≤ length out) where
-  pub gathered-more : {p : Printed} {e : ℕ} {now : List ℕ} {rest : List (List ℕ)} → p ≡ To e → gathering p now ≡ print_answer written number view rows out at
+  pub gathered-more : {p : Option ℕ} {e : ℕ} {now : List ℕ} {rest : List (List ℕ)} → p ≡ Some e → gathering p now ≡ print_answer written number view rows out at
       → (r : ℕ) (fin : List ℕ) → Gathered (take e now ∷ rest) r fin → Gathered (take at out ∷ answer_text number view rows ∷ rest) r fin
   unfolding print_answer
-  gathered-more {p} {e} {now} {rest} f q r fin g = go (room_for rows at out) (ap (λ (x : Printed). gathering x now) (sym f) ∙ q)
+  gathered-more {p} {e} {now} {rest} f q r fin g = go (room_for rows at out) (ap (λ (x : Option ℕ). gathering x now) (sym f) ∙ q)
     where
       text' : List ℕ
       text' = answer_text number view rows
 
-      behind : gathering (To e) now ≡ gathering (To (at + length text')) (stored at text' out) → Gathered (take at out ∷ text' ∷ rest) r fin
+      behind : gathering (Some e) now ≡ gathering (Some (at + length text')) (stored at text' out) → Gathered (take at out ∷ text' ∷ rest) r fin
       behind w =
-          let a : To e ≡ To (at + length text') = ap (λ (x : Gathering). x.answer) w in
+          let a : Some e ≡ Some (at + length text') = ap (λ (x : Gathering). x.answer) w in
           let n : now ≡ stored at text' out = ap (λ (x : Gathering). x.out) w in
           let ends : e ≡ at + length text' = cc in
           let here : take e now ≡ take at out ++ text' = ap₂ (λ (k : ℕ) (x : List ℕ). take k x) ends n ∙ taken-stored at text' out h in
           gathered-behind (subst (λ (x : List ℕ). Gathered (x ∷ rest) r fin) here g)
 
-      alone : gathering (To e) now ≡ gathering (To (length text')) (stored 0 text' out) → Gathered (take at out ∷ text' ∷ rest) r fin
+      alone : gathering (Some e) now ≡ gathering (Some (length text')) (stored 0 text' out) → Gathered (take at out ∷ text' ∷ rest) r fin
       alone w =
-          let a : To e ≡ To (length text') = ap (λ (x : Gathering). x.answer) w in
+          let a : Some e ≡ Some (length text') = ap (λ (x : Gathering). x.answer) w in
           let n : now ≡ stored 0 text' out = ap (λ (x : Gathering). x.out) w in
           let ends : e ≡ length text' = cc in
           let here : take e now ≡ text' = ap₂ (λ (k : ℕ) (x : List ℕ). take k x) ends n ∙ stored-first text' out in
           gathered-alone (subst (λ (x : List ℕ). Gathered (x ∷ rest) r fin) here g)
 
-      never : gathering (To e) now ≡ gathering Failed out → ⊥
+      never : gathering (Some e) now ≡ gathering None out → ⊥
       never w =
-          let a : To e ≡ Failed = ap (λ (x : Gathering). x.answer) w in
-          let z : ◌≡◌ {A = ℕ} 0 1 = cc in
-          omega arith
+          let a : Some e ≡ None = ap (λ (x : Gathering). x.answer) w in
+          some≢none a
 
-      front : (y : Bool) → gathering (To e) now ≡ cond y (gathering (To (length text')) (stored 0 text' out)) (gathering Failed out)
+      front : (y : Bool) → gathering (Some e) now ≡ cond y (gathering (Some (length text')) (stored 0 text' out)) (gathering None out)
           → Gathered (take at out ∷ text' ∷ rest) r fin
       front true w = alone w
       front false w = absurd (never w)
 
       go : (z : Bool)
-          → gathering (To e) now ≡ cond z (gathering (To (at + length text')) (stored at text' out))
-          (cond written (gathering (To (length text')) (stored 0 text' out)) (gathering Failed out))
+          → gathering (Some e) now ≡ cond z (gathering (Some (at + length text')) (stored at text' out))
+          (cond written (gathering (Some (length text')) (stored 0 text' out)) (gathering None out))
           → Gathered (take at out ∷ text' ∷ rest) r fin
       go true w = behind w
       go false w = front written w
 
--- ---- the texts still to come
+-- ---- the first answer row of those left
 
-module _ (requests answers orders : List ℕ) (at used : ℕ) where
-  pub texts-next : at + 3 ≤ length answers → length answers ≤ length requests → {n c : ℕ} → n ≡ told (get_or requests at 0) (get_or answers at 0) → c ≡ get_or answers (at + 2) 0
-      → texts (drop at requests) (drop at answers) (drop used orders)
-      ≡ answer_text n (get_or answers (at + 1) 0) (take (used + c * 3 - used) (drop used orders))
-      ∷ texts (drop (at + 3) requests) (drop (at + 3) answers) (drop (used + c * 3) orders)
-  unfolding texts
-  texts-next h l {n} {c} e f =
-      let here : get_or (drop at requests) 0 0 ≡ get_or requests at 0 = rw (next requests at (omega arith)) in
-      let wide : used + c * 3 - used ≡ c * 3 = omega arith in
-      rw (
-        row_next answers at h,
-        here,
-        ← e,
-        ← f,
-        wide,
-        drop-drop 3 at requests,
-        drop-drop (c * 3) used orders,
-      )
+pub counts-next : (answer answers : List ℕ) → length answer ≡ 3 → counts (answer ++ answers) ≡ get_or answer 2 0 + counts answers
+unfolding counts
+counts-next [] xs h = absurd (omega arith)
+counts-next (n ∷ []) xs h = absurd (omega arith)
+counts-next (n ∷ v ∷ []) xs h = absurd (omega arith)
+counts-next (n ∷ v ∷ c ∷ []) xs h = refl
+counts-next (n ∷ v ∷ c ∷ d ∷ ds) xs h = absurd (omega arith)
 
-  pub texts-done : length answers - at < 3 → texts (drop at requests) (drop at answers) (drop used orders) ≡ []
-  unfolding texts
-  texts-done h = go (drop at answers) (omega (arith, length-drop at answers))
-    where
-      go : (xs : List ℕ) → length xs < 3 → texts (drop at requests) xs (drop used orders) ≡ []
-      go [] l = refl
-      go (x ∷ []) l = refl
-      go (x ∷ y ∷ []) l = refl
-      go (x ∷ y ∷ z ∷ xs) l = absurd (omega arith)
+few-all : (answer answers : List ℕ) → length answer ≡ 3 → never_more (answer ++ answers) ≡ (leb (get_or answer 2 0) most_orders && never_more answers)
+unfolding never_more
+few-all [] xs h = absurd (omega arith)
+few-all (n ∷ []) xs h = absurd (omega arith)
+few-all (n ∷ v ∷ []) xs h = absurd (omega arith)
+few-all (n ∷ v ∷ c ∷ []) xs h = refl
+few-all (n ∷ v ∷ c ∷ d ∷ ds) xs h = absurd (omega arith)
 
--- ---- the longest answer
+module _ (answer answers : List ℕ) (h : length answer ≡ 3) (f : never_more (answer ++ answers) ≡ true) where
+  few-parts : (leb (get_or answer 2 0) most_orders ≡ true) × (never_more answers ≡ true)
+  few-parts = both (leb (get_or answer 2 0) most_orders) (never_more answers) (sym (few-all answer answers h) ∙ f)
 
-module _ (answers : List ℕ) (at : ℕ) (h : at + 3 ≤ length answers) (f : never_more (drop at answers) ≡ true) where
-  few-all : leb (get_or answers (at + 2) 0) most_orders && never_more (drop (at + 3) answers) ≡ true
-  unfolding never_more
-  few-all = sym (ap never_more (row_next answers at h)) ∙ f
+  pub few-next : get_or answer 2 0 ≤ most_orders
+  few-next = leb-true (get_or answer 2 0) most_orders few-parts.0
 
-  pub few-next : get_or answers (at + 2) 0 ≤ most_orders
-  few-next = leb-true (get_or answers (at + 2) 0) most_orders (both (leb (get_or answers (at + 2) 0) most_orders) (never_more (drop (at + 3) answers)) few-all).0
+  pub few-rest : never_more answers ≡ true
+  few-rest = few-parts.1
 
-  pub few-rest : never_more (drop (at + 3) answers) ≡ true
-  few-rest = (both (leb (get_or answers (at + 2) 0) most_orders) (never_more (drop (at + 3) answers)) few-all).1
+pub texts-next : (request requests answer answers orders : List ℕ) → length request ≡ 3 → length answer ≡ 3 → texts (request ++ requests) (answer ++ answers) orders
+    ≡ answer_text (told (get_or request 0 0) (get_or answer 0 0)) (get_or answer 1 0) (take (get_or answer 2 0 * 3) orders)
+    ∷ texts requests answers (drop (get_or answer 2 0 * 3) orders)
+unfolding texts
+texts-next request requests answer answers orders r a = go answer a
+  where
+    asked : (r : List ℕ) → length r ≡ 3 → (get_or (r ++ requests) 0 0 ≡ get_or r 0 0) × (drop 3 (r ++ requests) ≡ requests)
+    asked [] h = absurd (omega arith)
+    asked (x ∷ []) h = absurd (omega arith)
+    asked (x ∷ y ∷ []) h = absurd (omega arith)
+    asked (x ∷ y ∷ z ∷ []) h = (refl, refl)
+    asked (x ∷ y ∷ z ∷ w ∷ ws) h = absurd (omega arith)
 
--- has room at the front
-pub room-front : (c used : ℕ) (orders out : List ℕ) → c ≤ most_orders → longest ≤ length out → room_for (take (used + c * 3 - used) (drop used orders)) 0 out ≡ true
+    go : (a : List ℕ) → length a ≡ 3 → texts (request ++ requests) (a ++ answers) orders
+        ≡ answer_text (told (get_or request 0 0) (get_or a 0 0)) (get_or a 1 0) (take (get_or a 2 0 * 3) orders) ∷ texts requests answers (drop (get_or a 2 0 * 3) orders)
+    go [] h = absurd (omega arith)
+    go (n ∷ []) h = absurd (omega arith)
+    go (n ∷ v ∷ []) h = absurd (omega arith)
+    go (n ∷ v ∷ c ∷ []) h = let e = asked request r in rw (e.0, e.1)
+    go (n ∷ v ∷ c ∷ d ∷ ds) h = absurd (omega arith)
+
+pub texts-done : (requests answers orders : List ℕ) → length answers < 3 → texts requests answers orders ≡ []
+unfolding texts
+texts-done requests [] orders l = refl
+texts-done requests (x ∷ []) orders l = refl
+texts-done requests (x ∷ y ∷ []) orders l = refl
+texts-done requests (x ∷ y ∷ z ∷ xs) orders l = absurd (omega arith)
+
+-- the longest answer has room at the front
+pub room-front : (c : ℕ) (orders out : List ℕ) → c ≤ most_orders → longest ≤ length out → room_for (take (c * 3) orders) 0 out ≡ true
 unfolding room_for
-room-front c used orders out f l =
-    let rows : List ℕ = take (used + c * 3 - used) (drop used orders) in
-    le-leb (24 + 18 * (length rows / 3)) (length out - 0) (omega (arith, length-take (used + c * 3 - used) (drop used orders)))
+room-front c orders out f l =
+    let rows : List ℕ = take (c * 3) orders in
+    le-leb (24 + 18 * (length rows / 3)) (length out - 0) (omega (arith, length-take (c * 3) orders))

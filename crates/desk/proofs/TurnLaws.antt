@@ -1,7 +1,7 @@
 -- What a turn keeps: laws over plain variables.
 -- Assumes nothing.
 use Prim.Native.Nat.{ℕ, ◌*◌, ◌≤◌}
-use mathlib.Core.Path.{◌≡◌, sym, subst}
+use mathlib.Core.Path.{◌≡◌, refl, sym, subst}
 use mathlib.Core.Bool.{false}
 use mathlib.Core.List.{List}
 use native.Mathlib.Omega.{arith}
@@ -13,26 +13,21 @@ use Rattle.rules.specs.Bytes.{Tables, tables, head_of}
 use Rattle.rules.specs.Refusals.{short}
 use Rattle.rules.specs.Runs.{book_of}
 use Rattle.rules.specs.declared.Head.{Head}
-use Rattle.rules.specs.declared.Mode.{Mode}
 use Rattle.rules.specs.declared.Refusal.{Refusal}
 use Rattle.rules.specs.declared.Served.{Served}
-use Rattle.rules.specs.declared.Served.TheVariants.{Done, No}
+use Rattle.std.specs.Prelude.{Result, Ok, Err, IsOk}
 use Rattle.theorems.proofs.RunLaws.{fresh, fresh-sound}
 use Rattle.plan.specs.Judge.{Ready}
-use Rattle.lines.specs.declared.request.First.{First}
-use Rattle.lines.specs.declared.request.First.TheVariants.{Of}
-use Rattle.desk.specs.Input.{Within, pending, Whole, Moded}
+use Rattle.desk.specs.Input.{Within, pending, Whole}
 use Rattle.desk.specs.Block.{most_in, Enough, Serves}
 use Rattle.desk.specs.Turn.{Holds, Waits}
 use Rattle.desk.specs.declared.State.{State}
 use Rattle.desk.specs.declared.input.Unread.{Unread}
 
 -- a block's requests are served
-pub never-refused : (t : Tables) {s : Served} {r : Refusal} → s ≡ No r → Serves s t → ⊥
-never-refused t e x = subst (λ (z : Served). Serves z t) e x
-
-pub served-ready : (t : Tables) {s : Served} {h : Head} {n : ℕ} → s ≡ Done h n → Serves s t → Ready h t
-served-ready t e x = subst (λ (z : Served). Serves z t) e x
+pub serves-ok : (t : Tables) (s : Result Served Refusal) → Serves s t → IsOk s
+serves-ok t (Ok s) h = refl
+serves-ok t (Err r) h = absurd h
 
 pub ready_by : {h k : Head} {t : Tables} → h ≡ k → Ready k t → Ready h t
 ready_by {h} {k} {t} e x = subst (λ (z : Head). Ready z t) (sym e) x
@@ -54,9 +49,6 @@ enough rows requests l q a o m =
     record { whole = omega arith; answered = omega arith; room = omega arith }
 
 -- ---- the start
-
-pub mode-named : {f : First} {m : Mode} → f ≡ Of m → Moded f → m.0 ≤ 1
-mode-named {f} e x = subst Moded e x
 
 module _ (iv it ov ot rs : List ℕ) (a : 2560 ≡ length iv) (b : 20480 ≡ length it) (c : 4096 ≡ length ov) (d : 16384 ≡ length ot) (e : 3072 ≡ length rs) where
   all-long : short (tables iv it ov ot rs) ≡ false

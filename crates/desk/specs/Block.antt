@@ -1,10 +1,10 @@
 -- The lines that one call serves: their request rows, and the most order rows that they may need.
 -- Assumes nothing.
-use Rattle.std.specs.Prelude.{ℕ, zero, suc, ◌+◌, ◌*◌, ◌-◌, ◌/◌, ◌%◌, ◌≤◌, ◌≡◌, Bool, true, false, cond, List, [], ◌∷◌, ◌++◌, eqb, leb, length, take}
+use Rattle.std.specs.Prelude.{ℕ, zero, suc, ◌+◌, ◌*◌, ◌-◌, ◌/◌, ◌%◌, ◌≤◌, ◌≡◌, Bool, true, false, cond, Option, Some, None, Result, Ok, Err, List, [], ◌∷◌, ◌++◌, eqb, leb, length, take}
 use Rattle.rules.specs.Book.{Book}
 use Rattle.rules.specs.Bytes.{Tables}
+use Rattle.rules.specs.declared.Refusal.{Refusal}
 use Rattle.rules.specs.declared.Served.{Served}
-use Rattle.rules.specs.declared.Served.TheVariants.{Done, No}
 use Rattle.plan.specs.Judge.{Ready}
 use Rattle.desk.specs.Input.{between}
 use Rattle.desk.specs.Output.{most_orders, counts, never_ten, never_more}
@@ -13,19 +13,17 @@ use Rattle.desk.specs.declared.input.Unread.{Unread}
 use Rattle.lines.specs.Request.{asking, line_asks}
 use Rattle.lines.specs.Program.{lines_in, span, Told, line_told}
 use Rattle.lines.specs.declared.request.Asked.{Asked}
-use Rattle.lines.specs.declared.request.Line.{Line}
-use Rattle.lines.specs.declared.request.Line.TheVariants.{Asks, Malformed}
 
 -- the row of a malformed line: no request has its kind
 abbrev pub malformed : Asked
 malformed = record { kind = 14; a = 0; b = 0 }
 
-abbrev pub row_of : Line → Asked
-row_of (Asks q) = q
-row_of Malformed = malformed
+abbrev pub row_of : Option Asked → Asked
+row_of (Some q) = q
+row_of None = malformed
 
 -- of a line whose start was dropped because it is too long, and of any other
-abbrev pub row_for : Bool → Line → Asked
+abbrev pub row_for : Bool → Option Asked → Asked
 row_for true l = malformed
 row_for false l = row_of l
 
@@ -82,7 +80,7 @@ pub record Reads (u : Unread) (input : List ℕ) (b : Block) (requests : List �
 
 -- to one row: to the line that has it
 unfoldable pub row_told : ℕ → ℕ → ℕ → Book → Told
-row_told kind a b book = line_told (cond (eqb kind 14) Malformed (asking kind a b)) book
+row_told kind a b book = line_told (cond (eqb kind 14) None (asking kind a b)) book
 
 -- to several, one after the other
 unfoldable pub rows_answers : List ℕ → Book → List ℕ
@@ -115,12 +113,12 @@ pub record Enough (requests answers orders : List ℕ) : Type 0 where
   pub room : most_in requests ≤ length orders / 3
 
 -- the requests were served, and the book is sound
-abbrev pub Serves : Served → Tables → Type 0
-Serves (Done h used) t = Ready h t
-Serves (No r) t = ⊥
+abbrev pub Serves : Result Served Refusal → Tables → Type 0
+Serves (Ok s) t = Ready s.head t
+Serves (Err r) t = ⊥
 
 -- the answer rows of a block, and the order list
-pub record Answered (s : Served) (t : Tables) (answers orders : List ℕ) : Type 0 where
+pub record Answered (s : Result Served Refusal) (t : Tables) (answers orders : List ℕ) : Type 0 where
   pub serves : Serves s t
   pub within : counts answers * 3 ≤ length orders
   pub never : never_ten answers ≡ true

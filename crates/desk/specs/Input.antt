@@ -1,10 +1,9 @@
 -- The input buffer: where lines end in it, and the part of it that is not yet taken.
 -- Assumes nothing.
-use Rattle.std.specs.Prelude.{ℕ, ◌+◌, ◌-◌, ◌≤◌, ◌≡◌, Bool, true, false, cond, ◌&&◌, ◌||◌, not, List, [], ◌∷◌, ◌++◌, ltb, length, replicate, take, drop}
+use Rattle.std.specs.Prelude.{ℕ, ◌+◌, ◌-◌, ◌≤◌, ◌≡◌, Bool, true, false, cond, ◌&&◌, ◌||◌, not, Option, Some, None, List, [], ◌∷◌, ◌++◌, ltb, length, replicate, take, drop}
 use Rattle.lines.specs.Request.{first_line}
 use Rattle.lines.specs.Program.{lines_in, closed, answered, program}
-use Rattle.lines.specs.declared.request.First.{First}
-use Rattle.lines.specs.declared.request.First.TheVariants.{Of, Malformed}
+use Rattle.rules.specs.declared.Mode.{Mode}
 use Rattle.desk.specs.declared.input.Unread.{Unread}
 use Rattle.desk.specs.declared.input.Taken.{Taken}
 
@@ -46,23 +45,17 @@ lacks_line u input = not u.ended && no_line (lines_in (pending u input))
 unfoldable pub kept : List ℕ → List ℕ
 kept w = cond (ltb 512 (length w)) (start true) w
 
--- unless something failed
-abbrev pub Unless : Bool → Type 0 → Type 0
-Unless true P = Unit {0}
-Unless false P = P
-
 -- one read behind an unfinished line: the bytes that came stand behind what is kept; at the input's end the last line gets its newline
 pub record More (u : Unread) (input : List ℕ) (r : Unread) (now : List ℕ) : Type 0 where
   pub came : List ℕ
   pub last : Comes r.ended came
   pub bytes : pending r now ≡ cond r.ended (closed (kept (pending u input))) (kept (pending u input) ++ came)
 
--- what is there after it, also where it failed
+-- what is there after it
 pub record Got (u : Unread) (input : List ℕ) (r : Unread) (now : List ℕ) : Type 0 where
   pub within : Within r now
   pub last : Whole (pending r now) r.ended
-  pub over : r.failed ≡ true → r.ended ≡ true
-  pub more : Unless r.failed (More u input r now)
+  pub more : More u input r now
 
 -- the reads until the first line is whole: the program prints the same for what is pending as for all that came, whatever follows
 pub record ReadSoFar (u : Unread) (input : List ℕ) : Type 0 where
@@ -88,22 +81,21 @@ too_long u = u.cut || ltb 512 (u.to - u.from)
 
 -- what is kept of an unfinished line: all its bytes, or none, and then it is marked as cut
 pub record Keeps (u : Unread) (input : List ℕ) (r : Unread) (now : List ℕ) : Type 0 where
-  pub marked : r ≡ cond (too_long u) (record { from = 0; to = 0; cut = true; ended = false; failed = false }) (record { from = 0; to = u.to - u.from; cut = false; ended = false; failed = false })
+  pub marked : r ≡ cond (too_long u) (record { from = 0; to = 0; cut = true; ended = false }) (record { from = 0; to = u.to - u.from; cut = false; ended = false })
   pub bytes : take r.to now ≡ cond (too_long u) [] (between u.from u.to input)
 
 -- at the input's end: the newline that the last line may lack
 pub record Ends (r : Unread) (now before : List ℕ) : Type 0 where
   pub bytes : now ≡ closed before
   pub ended : r.ended ≡ true
-  pub failed : r.failed ≡ false
 
--- what the first line names is a mode
-abbrev pub Moded : First → Type 0
-Moded (Of m) = m.0 ≤ 1
-Moded Malformed = Unit {0}
+-- the mode, and what comes after a first line that ends before `from`
+abbrev pub taking : Unread → ℕ → Option Mode → Option Taken
+taking u from (Some m) = Some (record { mode = m; unread = record { from = from; to = u.to; cut = false; ended = u.ended } })
+taking u from None = None
 
 -- what the first of the lines names, and what comes after it; where there is none, or its start was dropped, nothing is taken
-abbrev pub mode_taken : Unread → Bool → List (List ℕ) → Taken
-mode_taken u true ls = record { first = Malformed; unread = u }
-mode_taken u false [] = record { first = Malformed; unread = u }
-mode_taken u false (l ∷ ls) = record { first = first_line l; unread = record { from = u.from + length l + 1; to = u.to; cut = false; ended = u.ended; failed = u.failed } }
+abbrev pub mode_taken : Unread → Bool → List (List ℕ) → Option Taken
+mode_taken u true ls = None
+mode_taken u false [] = None
+mode_taken u false (l ∷ ls) = taking u (u.from + length l + 1) (first_line l)

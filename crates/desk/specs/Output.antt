@@ -1,21 +1,8 @@
 -- What the output buffer holds and how far it is filled, and the order rows that answer rows count.
 -- Assumes nothing.
-use Rattle.std.specs.Prelude.{ℕ, ◌+◌, ◌*◌, ◌≤◌, ◌<◌, ◌≡◌, Bool, true, false, ◌&&◌, not, cond, List, [], ◌∷◌, eqb, leb, length, take, drop, get_or}
+use Rattle.std.specs.Prelude.{ℕ, ◌+◌, ◌*◌, ◌<◌, ◌≡◌, Bool, true, ◌&&◌, not, cond, Option, Some, None, List, [], ◌∷◌, eqb, leb, length, take, drop, get_or}
 use Rattle.rows.specs.Number.{stored, joined}
 use Rattle.lines.specs.Answer.{answer_text, room_for}
-use Rattle.desk.specs.declared.output.Printed.{Printed}
-use Rattle.desk.specs.declared.output.Printed.TheVariants.{To, Failed}
-
-abbrev pub filled_to : Printed → ℕ
-filled_to (To n) = n
-filled_to Failed = 0
-
-abbrev pub failed_in : Printed → Bool
-failed_in (To n) = false
-failed_in Failed = true
-
-abbrev pub Filled : Printed → List ℕ → Type 0
-Filled p out = filled_to p ≤ length out
 
 -- of answer rows: number, view, count
 unfoldable pub counts : List ℕ → ℕ
@@ -52,23 +39,23 @@ told kind number = cond (eqb kind 14) 14 number
 
 -- ---- one answer
 
--- what the call answers and leaves
+-- where the buffer is filled to, unless the call fails, and what it leaves
 pub record Gathering : Type 0 where
-  pub answer : Printed
+  pub answer : Option ℕ
   pub out : List ℕ
 
-abbrev pub gathering : Printed → List ℕ → Gathering
+abbrev pub gathering : Option ℕ → List ℕ → Gathering
 gathering p out = record { answer = p; out = out }
 
 -- behind those gathered; where it has no room there, at the front, if those could be written out: it fails where they could not, and only there
 unfoldable pub print_answer : Bool → ℕ → ℕ → List ℕ → List ℕ → ℕ → Gathering
 print_answer written number view rows out filled =
     let text = answer_text number view rows in
-    cond (room_for rows filled out) (gathering (To (filled + length text)) (stored filled text out))
-    (cond written (gathering (To (length text)) (stored 0 text out)) (gathering Failed out))
+    cond (room_for rows filled out) (gathering (Some (filled + length text)) (stored filled text out))
+    (cond written (gathering (Some (length text)) (stored 0 text out)) (gathering None out))
 
 -- one of the two: nothing says beforehand whether the output can be written
-pub record Prints (number view : ℕ) (rows out : List ℕ) (filled : ℕ) (p : Printed) (now : List ℕ) : Type 0 where
+pub record Prints (number view : ℕ) (rows out : List ℕ) (filled : ℕ) (p : Option ℕ) (now : List ℕ) : Type 0 where
   pub written : Bool
   pub leaves : gathering p now ≡ print_answer written number view rows out filled
 
@@ -87,7 +74,3 @@ pub record Gathered (pieces : List (List ℕ)) (end : ℕ) (out : List ℕ) : Ty
   pub gone : ℕ
   pub last : gone < length pieces
   pub holds : take end out ≡ joined (drop gone pieces)
-
-abbrev pub Gathers : List (List ℕ) → Printed → List ℕ → Type 0
-Gathers pieces (To end) out = Gathered pieces end out
-Gathers pieces Failed out = Unit {0}

@@ -1,17 +1,16 @@
 -- What holds when the program starts to answer, and between two turns: the tables hold a sound book, and the buffers' parts lie within them. And what a turn
 -- does with the input and the output, so that all turns together print what the program's definition says.
 -- Assumes nothing.
-use Rattle.std.specs.Prelude.{ℕ, ◌≤◌, ◌<◌, Bool, true, false, cond, not, List, [], ◌++◌, ◌≡◌, length, take, drop}
+use Rattle.std.specs.Prelude.{ℕ, ◌≤◌, ◌<◌, Bool, true, false, cond, List, [], ◌++◌, ◌≡◌, length, take, drop}
 use Rattle.rules.specs.Book.{Book}
 use Rattle.rules.specs.Bytes.{Tables, book_in}
 use Rattle.rules.specs.declared.Head.{Head}
 use Rattle.plan.specs.Judge.{Ready}
 use Rattle.lines.specs.Program.{lines_in, closed, span, answers, leaves, program}
 use Rattle.desk.specs.Input.{Within, pending, kept, Whole, Comes}
-use Rattle.desk.specs.Output.{longest, filled_to, failed_in}
+use Rattle.desk.specs.Block.{Answers}
+use Rattle.desk.specs.Output.{longest}
 use Rattle.desk.specs.declared.State.{State}
-use Rattle.desk.specs.declared.input.Unread.{Unread}
-use Rattle.desk.specs.declared.output.Printed.{Printed}
 
 -- what a state holds: the book, the answers that are not yet written out, the input that is not yet taken and whether it is the last
 pub record Desk : Type 0 where
@@ -44,7 +43,6 @@ pub record Starts (s : State) (t : Tables) (input : List ℕ) : Type 0 where
   pub long : 512 < length input
   pub none : s.filled ≡ 0
   pub going : s.going ≡ true
-  pub fine : s.failed ≡ false
   -- asked for, so that the caller has to show that its start is one from which the program's text is still printed
   pub begun : Begun (desk s t input [])
 
@@ -54,7 +52,6 @@ pub record Waits (s : State) (input out : List ℕ) : Type 0 where
   pub last : Whole (pending s.unread input) s.unread.ended
   pub long : 512 < length input
   pub gathered : s.filled ≤ length out
-  pub works : s.going ≡ true → s.failed ≡ false
 
 -- between two turns
 pub record Holds (s : State) (t : Tables) (input out : List ℕ) : Type 0 where
@@ -68,13 +65,18 @@ pub record Lent (requests answers orders out : List ℕ) : Type 0 where
   pub rows : 18432 ≤ length orders
   pub texts : longest ≤ length out
 
--- the state after a block's answers
-pub record Printing (s : State) (h : Head) (u : Unread) (p : Printed) : Type 0 where
-  pub head≡ : s.head ≡ h
-  pub unread≡ : s.unread ≡ u
-  pub filled≡ : s.filled ≡ filled_to p
-  pub failed≡ : s.failed ≡ failed_in p
-  pub going≡ : s.going ≡ not (failed_in p)
+-- what the tables hold whatever happens: a sound book
+pub record Sound (t : Tables) : Type 0 where
+  pub head : Head
+  pub ready : Ready head t
+
+-- after a block's answers
+pub record BlockAnswered (s : State) (t : Tables) (requests out : List ℕ) (r : State) (t' : Tables) (now : List ℕ) : Type 0 where
+  pub ready : Ready r.head t'
+  pub unread≡ : r.unread ≡ s.unread
+  pub filled : r.filled ≤ length now
+  pub going : r.going ≡ true
+  pub answers : Answers requests (book_in s.head t) (take s.filled out) (book_in r.head t') (take r.filled now)
 
 -- ---- turns
 

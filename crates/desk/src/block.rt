@@ -1,7 +1,7 @@
 // The lines that one call serves, as request rows.
 ghost use Rattle.std.specs.Prelude.{◌≡◌, ◌+◌, ◌*◌, ◌≤◌, length, take};
 ghost use Rattle.rows.specs.Number.{stored};
-ghost use Rattle.rules.specs.Bytes.{tables};
+ghost use Rattle.rules.specs.Bytes.{tables_mut, SameTables};
 ghost use Rattle.rules.specs.Calls.{serving, serve_call};
 ghost use Rattle.plan.specs.Judge.{Ready};
 ghost use Rattle.lines.specs.Request.{line_asks};
@@ -9,9 +9,9 @@ ghost use Rattle.desk.specs.Input.{Within};
 ghost use Rattle.desk.specs.Block.{row_for, numbers_of, most_of, most_in, Reads, Enough, Answered};
 
 use crate::input::{Unread, line_end};
-use lines::request::{Asked, Line, read_line};
+use lines::request::{Asked, read_line};
 use policy::serve::{REQUEST_WIDTH, serve};
-use rules::{Head, Served};
+use rules::{Head, RequestKind, Served, TablesMut};
 
 // At most so many lines.
 pub const BLOCK: usize = 128;
@@ -29,34 +29,32 @@ pub const MALFORMED: u64 = 14;
 fn most_rows(kind: u64) -> usize
     ensures { result ≡ most_of kind }
 {
-    match kind {
-        0 => 2,
-        1 => 132,
-        2 => 385,
-        3 => 65,
-        4 => 126,
-        5 => MOST,
-        _ => 0,
+    match RequestKind::try_from(kind) {
+        Ok(RequestKind::Join) => 2,
+        Ok(RequestKind::Insert) => 132,
+        Ok(RequestKind::Grant) => 385,
+        Ok(RequestKind::Revoke) => 65,
+        Ok(RequestKind::Open) => 126,
+        Ok(RequestKind::Leave) => MOST,
+        Err(_) => 0,
     }
 }
+
+// The row of a malformed line.
+const NO_REQUEST: Asked = Asked {
+    kind: MALFORMED,
+    a: 0,
+    b: 0,
+};
 
 // What a line asks; `cut` says that its start was dropped because it is too long.
 fn asked(line: &[u8], cut: bool) -> Asked
     ensures { result ≡ row_for cut (line_asks line.now) }
 {
-    let malformed = Asked {
-        kind: MALFORMED,
-        a: 0,
-        b: 0,
-    };
     if cut {
-        return malformed;
+        return NO_REQUEST;
     }
-    let l = read_line(line);
-    match l {
-        Line::Asks(q) => q,
-        Line::Malformed => malformed,
-    }
+    read_line(line).unwrap_or(NO_REQUEST)
 }
 
 fn put_request(requests: &mut [u64], row: usize, q: Asked)
@@ -64,9 +62,7 @@ fn put_request(requests: &mut [u64], row: usize, q: Asked)
     ensures { requests.new ≡ stored (row * 3) (numbers_of q) requests.old }
 {
     let at = row * REQUEST_WIDTH;
-    requests[at] = q.kind;
-    requests[at + 1] = q.a;
-    requests[at + 2] = q.b;
+    requests[at..at + REQUEST_WIDTH].copy_from_slice(&[q.kind, q.a, q.b]);
 }
 
 // How many request rows were filled, and what is left of the input.
@@ -85,55 +81,43 @@ pub fn read_block(input: &[u8], u: Unread, requests: &mut [u64]) -> Block
     ensures requests_bound { most_in (take (result.rows * 3) requests.new) ≤ 6144 }
     ensures reads { Reads u input.now result requests.new }
 {
-    let to = u.to;
-    let mut from = u.from;
-    let mut cut = u.cut;
+    let mut unread = u;
     let mut room = ORDERS;
-    let mut rows: usize = 0;
-    while rows < BLOCK {
-        let end = from + line_end(&input[from..to]);
-        if end == to {
-            break;
-        }
-        let q = asked(&input[from..end], cut);
+    for rows in 0..BLOCK {
+        let from = unread.from;
+        let Some(width) = line_end(&input[from..unread.to]) else {
+            return Block { rows, unread };
+        };
+        let end = from + width;
+        let q = asked(&input[from..end], unread.cut);
         let most = most_rows(q.kind);
         if room < most {
-            break;
+            return Block { rows, unread };
         }
         room -= most;
         put_request(requests, rows, q);
-        rows += 1;
-        from = end + 1;
-        cut = false;
+        unread.from = end + 1;
+        unread.cut = false;
     }
     Block {
-        rows,
-        unread: Unread {
-            from,
-            to,
-            cut,
-            ended: u.ended,
-            failed: u.failed,
-        },
+        rows: BLOCK,
+        unread,
     }
 }
 
 // The block's requests on the book, in one call. None finds the order list too short.
 pub fn serve_block(
     h: Head,
-    iv: &mut [u8],
-    it: &mut [u8],
-    ov: &mut [u8],
-    ot: &mut [u8],
-    rs: &mut [u8],
+    t: &mut TablesMut<'_>,
     requests: &[u64],
     answers: &mut [u16],
     orders: &mut [u16],
 ) -> Served
-    requires ready { Ready h (tables iv.old it.old ov.old ot.old rs.old) }
+    requires ready { Ready h (tables_mut t.old) }
     requires enough { Enough requests.now answers.old orders.old }
-    ensures answered { Answered result (tables iv.new it.new ov.new ot.new rs.new) (take (length requests.now) answers.new) orders.new }
-    ensures orders_after { serving result (tables iv.new it.new ov.new ot.new rs.new) answers.new orders.new ≡ serve_call requests.now h (tables iv.old it.old ov.old ot.old rs.old) answers.old orders.old }
+    ensures answered { Answered (Ok result) (tables_mut t.new) (take (length requests.now) answers.new) orders.new }
+    ensures orders_after { serving (Ok result) (tables_mut t.new) answers.new orders.new ≡ serve_call requests.now h (tables_mut t.old) answers.old orders.old }
+    ensures same { SameTables t.old t.new }
 {
-    serve(h, iv, it, ov, ot, rs, requests, answers, orders)
+    serve(h, t, requests, answers, orders).unwrap()
 }

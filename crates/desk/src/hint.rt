@@ -5,9 +5,8 @@ ghost use Rattle.lines.specs.Program.{lines_in};
 ghost use Rattle.desk.specs.Input.{between, Within};
 ghost use Rattle.desk.specs.Hint.{blank, capital, marked, hint_for, hint_in};
 
-use crate::console::Console;
 use crate::input::{Unread, line_end};
-use std::io::Print;
+use console::Console;
 
 // What the first line is instead of a mode: nothing came in, it is empty, begins with a byte order mark, ends in a carriage return, has a blank at an end,
 // has a capital; or anything else.
@@ -22,76 +21,45 @@ pub enum Hint {
     Other,
 }
 
+#[tactic(auto, using(std::proofs::lemmas::Bool::Decides::nat_tests), unfolding(crate::specs::Hint::blank))]
 fn is_blank(c: u8) -> bool
     ensures { result ≡ blank c }
 {
-    if c == b' ' {
-        return true;
-    }
-    c == b'\t'
-}
-
-fn is_capital(c: u8) -> bool
-    ensures { result ≡ capital c }
-{
-    if c < b'A' {
-        return false;
-    }
-    c <= b'Z'
+    c == b' ' || c == b'\t'
 }
 
 // Whether it begins with a byte order mark.
 fn is_marked(line: &[u8]) -> bool
     ensures { result ≡ marked line.now }
 {
-    if line.len() < 3 {
-        return false;
-    }
-    if line[0] != 0xEF {
-        return false;
-    }
-    if line[1] != 0xBB {
-        return false;
-    }
-    line[2] == 0xBF
+    line.starts_with(b"\xEF\xBB\xBF")
 }
 
 fn has_capital(line: &[u8]) -> bool
     ensures { result ≡ some capital line.now }
 {
-    let mut i: usize = 0;
-    while i < line.len() {
-        if is_capital(line[i]) {
-            return true;
-        }
-        i += 1;
-    }
-    false
+    line.iter().any(|c| c.is_ascii_uppercase())
 }
 
+#[tactic(auto, using(std::proofs::lemmas::Bool::Decides::nat_tests), unfolding(crate::specs::Hint::hint_for, crate::specs::Hint::last_of))]
 fn hint_for(line: &[u8]) -> Hint
     ensures { result ≡ hint_for line.now }
 {
-    if line.len() == 0 {
+    let [first, ..] = line else {
         return Hint::Empty;
-    }
+    };
     let last = line[line.len() - 1];
     if is_marked(line) {
-        return Hint::Marked;
+        Hint::Marked
+    } else if last == b'\r' {
+        Hint::Returned
+    } else if is_blank(*first) || is_blank(last) {
+        Hint::Blank
+    } else if has_capital(line) {
+        Hint::Capital
+    } else {
+        Hint::Other
     }
-    if last == b'\r' {
-        return Hint::Returned;
-    }
-    if is_blank(line[0]) {
-        return Hint::Blank;
-    }
-    if is_blank(last) {
-        return Hint::Blank;
-    }
-    if has_capital(line) {
-        return Hint::Capital;
-    }
-    Hint::Other
 }
 
 // Of the input that was read until its first line was whole.
@@ -103,36 +71,32 @@ pub fn hint_in(input: &[u8], u: Unread) -> Hint
         return Hint::Other;
     }
     let from = u.from;
-    let to = u.to;
-    let end = from + line_end(&input[from..to]);
-    if end == to {
+    let Some(width) = line_end(&input[from..u.to]) else {
         return Hint::Nothing;
-    }
-    hint_for(&input[from..end])
+    };
+    hint_for(&input[from..from + width])
 }
 
 pub fn tell(console: Console, h: Hint) {
-    let _ = match h {
-        Hint::Nothing => console.stderr.write_all(
-            b"fenstubble: nothing came in: the first line must be 'delta' or 'full' (see --help)\n",
-        ),
-        Hint::Empty => console.stderr.write_all(
-            b"fenstubble: the first line is empty: write 'delta' or 'full' there\n",
-        ),
-        Hint::Marked => console.stderr.write_all(
-            b"fenstubble: the first line begins with a byte order mark: save the requests as plain text without one\n",
-        ),
-        Hint::Returned => console.stderr.write_all(
-            b"fenstubble: the first line ends in a carriage return: save the requests with plain newlines (tr -d '\\r' < old > new)\n",
-        ),
-        Hint::Blank => console.stderr.write_all(
-            b"fenstubble: the first line has a blank before or behind it: write 'delta' or 'full' alone\n",
-        ),
-        Hint::Capital => console.stderr.write_all(
-            b"fenstubble: the first line has a capital: write 'delta' or 'full' in small letters\n",
-        ),
-        Hint::Other => console.stderr.write_all(
-            b"fenstubble: the first line is neither 'delta' nor 'full' (see --help)\n",
-        ),
-    };
+    console.tell(match h {
+        Hint::Nothing => {
+            b"fenstubble: nothing came in: the first line must be 'delta' or 'full' (see --help)\n"
+        }
+        Hint::Empty => { b"fenstubble: the first line is empty: write 'delta' or 'full' there\n" }
+        Hint::Marked => {
+            b"fenstubble: the first line begins with a byte order mark: save the requests as plain text without one\n"
+        }
+        Hint::Returned => {
+            b"fenstubble: the first line ends in a carriage return: save the requests with plain newlines (tr -d '\\r' < old > new)\n"
+        }
+        Hint::Blank => {
+            b"fenstubble: the first line has a blank before or behind it: write 'delta' or 'full' alone\n"
+        }
+        Hint::Capital => {
+            b"fenstubble: the first line has a capital: write 'delta' or 'full' in small letters\n"
+        }
+        Hint::Other => {
+            b"fenstubble: the first line is neither 'delta' nor 'full' (see --help)\n"
+        }
+    });
 }

@@ -16,9 +16,6 @@ use Rattle.rules.specs.declared.Fault.TheVariants.{Mark, Version, Mode, Count, L
 use Rattle.lines.specs.Text.{bytes}
 use Rattle.lines.specs.Answer.{numeral, Puts}
 use Rattle.inspect.specs.Input.{FrontOf, AllCame}
-use Rattle.inspect.specs.declared.input.Came.{Came}
-use Rattle.inspect.specs.declared.Reply.{Reply}
-use Rattle.inspect.specs.declared.Reply.TheVariants.{To, Failed}
 
 -- ---- a sound book: "nine lines, `sound` and the head"
 
@@ -155,11 +152,7 @@ Answers front total out end now = (came : List ℕ) → FrontOf front total came
 -- ---- the program: what it writes out is the text for all that came, whose front is in the input buffer
 
 pub record Told (input : List ℕ) (end : ℕ) (out : List ℕ) : Type 0 where
-  pub read : Came
-  pub all : AllCame read input
+  pub total : ℕ
+  pub all : AllCame total input
   pub within : end ≤ length out
-  pub text : take end out ≡ check_text all.so_far.came
-
-abbrev pub Answered : List ℕ → Reply → List ℕ → Type 0
-Answered input (To end) out = Told input end out
-Answered input Failed out = Unit {0}
+  pub text : take end out ≡ check_text all.came

@@ -3,9 +3,10 @@ ghost use Rattle.std.specs.Prelude.{◌≡◌, ◌+◌, ◌≤◌, length};
 ghost use Rattle.lines.specs.Answer.{Puts};
 ghost use Rattle.inspect.specs.Text.{Headed, grown, mode_text, people_text, layers_text, head_text, refused_text, broken_text, short_text, Answers};
 
-use crate::text::{put_number, put_words};
+use crate::text::put_number;
 use crate::words::put_sentence;
 use book::{HEADER, Wrong, first_fault, head_in, header_in, version_in};
+use lines::answer::put_text;
 use rules::{Fault, Head, fault_number, fault_place};
 use sets::Users;
 
@@ -25,9 +26,9 @@ fn put_mode(mode: u16, out: &mut [u8], at: usize) -> usize
     ensures upper_bound { result ≤ at + 20 }
 {
     if mode == 0 {
-        return put_words(b"mode full\n", out, at);
+        return put_text(b"mode full\n", out, at);
     }
-    put_words(b"mode delta\n", out, at)
+    put_text(b"mode delta\n", out, at)
 }
 
 // `sound`, the mode, the users and the folders.
@@ -36,7 +37,7 @@ fn put_people(h: Head, out: &mut [u8]) -> usize
     ensures puts { Puts (people_text h) 0 out.old result out.new }
     ensures upper_bound { result ≤ 100 }
 {
-    let a = put_words(b"sound\n", out, 0);
+    let a = put_text(b"sound\n", out, 0);
     let b = put_mode(h.mode.0, out, a);
     let c = put_number(b"users ", h.users.0 as u64, b'\n', out, b);
     put_number(b"folders ", h.resources.0 as u64, b'\n', out, c)
@@ -96,7 +97,7 @@ fn put_short(n: usize, out: &mut [u8]) -> usize
     ensures { Puts (short_text n) 0 out.old result out.new }
 {
     let end = put_refused(Fault::Length(n), out);
-    put_words(b"wrong length: a header has 17 bytes\n", out, end)
+    put_text(b"wrong length: a header has 17 bytes\n", out, end)
 }
 
 // The answer to an input of which only the front may be at hand: as many bytes as the longest book has, and one more. What is wrong with bytes is told by their

@@ -7,46 +7,43 @@
 mod answer;
 mod input;
 mod memory;
-mod output;
 mod text;
 mod words;
 
-ghost use Rattle.std.specs.Prelude.{◌≡◌, ◌+◌, ◌≤◌, length};
+ghost use Rattle.std.specs.Prelude.{◌≡◌, ◌+◌, ◌≤◌, IfOk, length};
 ghost use Rattle.inspect.specs.Input.{longest};
-ghost use Rattle.inspect.specs.Text.{Answered};
+ghost use Rattle.inspect.specs.Text.{Told};
 
 use answer::put_check;
+use console::{Console, zeros};
 use input::read_all;
-use output::write_out;
-use std::io::{Stderr, Stdin};
+use memory::{INPUT, OUTPUT};
+use std::io;
+use std::io::Stdin;
 
-// Where the answer's text ends in the output buffer; Failed where the input can't be read.
-#[derive(Clone, Copy)]
-enum Reply {
-    To(usize),
-    Failed,
-}
-
-// Reads the input and puts the answer into the output buffer.
-fn check(stdin: Stdin, stderr: Stderr, input: &mut [u8], out: &mut [u8]) -> Reply
+// Reads the input and puts the answer into the output buffer: where its text ends.
+fn check(stdin: Stdin, input: &mut [u8], out: &mut [u8]) -> io::Result<usize>
     requires longest_value { longest + 1 ≡ length input.old }
     requires in_bounds { 512 ≤ length out.old }
-    ensures { Answered input.new result out.new }
+    ensures { IfOk result (λ end. Told input.new end out.new) }
 {
-    let c = read_all(stdin, stderr, input);
-    if c.failed {
-        return Reply::Failed;
-    }
-    let kept = c.kept;
-    Reply::To(put_check(&input[..kept], c.total, out))
+    let total = read_all(stdin, input)?;
+    let kept = total.min(input.len());
+    Ok(put_check(&input[..kept], total, out))
 }
 
 fn main(rt: HostRuntime) {
-    let mut input = memory::input_bytes();
-    let mut out = memory::output_bytes();
-    let a = check(rt.stdin(), rt.stderr(), &mut input, &mut out);
-    let Reply::To(end) = a else {
-        return;
+    let console = Console {
+        stdin: rt.stdin(),
+        stdout: rt.stdout(),
+        stderr: rt.stderr(),
     };
-    write_out(rt.stdout(), rt.stderr(), &out[..end]);
+    let mut input: [u8; INPUT] = zeros(0);
+    let mut out: [u8; OUTPUT] = zeros(0);
+    match check(console.stdin, &mut input, &mut out) {
+        Ok(end) => {
+            let _ = console.write_out(&out[..end]);
+        }
+        Err(_) => console.tell_unread(),
+    }
 }

@@ -1,28 +1,14 @@
 -- `desk::hint::hint_in` meets its contract. Assumes nothing.
-use Prim.Native.Nat.{◌+◌, ◌-◌, ◌≤◌, ◌<◌}
-use mathlib.Core.Path.{◌≡◌}
-use native.Mathlib.Omega.{arith}
-use Rattle.desk.proofs.LineLaws.{part-next, part_none}
+use Rattle.std.proofs.Common.{sym, ◌∙◌}
+use Rattle.desk.proofs.LineLaws.{no-line, line-next}
 use Rattle.desk.proofs.hint.hint_in.Goals as goal
 
-pub returns-then-end-to : goal.returns-then-end-to
-returns-then-end-to c =
+pub returns-in_default : goal.returns-in_default
+returns-in_default c =
     let u = c.args.u in
-    let end = c.line_end in
-    let all : u.to - u.from ≤ end.result = omega arith in
-    rw (
-      c.if-u.false,
-      part_none c.args.input.now u.from u.to end.result c.requires.ordered c.requires.inside end.ensures.value all,
-    )
+    rw (c.if-u.false, no-line c.args.input.now u.from u.to c.requires.ordered c.requires.inside (sym c.in_default.is ∙ c.line_end.ensures))
 
 pub returns : goal.returns
 returns c =
     let u = c.args.u in
-    let end = c.line_end in
-    let some : (u.from + end.result ≡ u.to → ⊥) = c.if-end-to.false in
-    let inside : end.result < u.to - u.from = omega arith in
-    rw (
-      c.if-u.false,
-      part-next c.args.input.now u.from u.to end.result c.requires.ordered c.requires.inside end.ensures.value inside,
-    )
-    c.hint_for.ensures
+    rw (c.if-u.false, line-next c.args.input.now u.from u.to c.requires.ordered c.requires.inside (sym c.in-Some.is ∙ c.line_end.ensures)) c.hint_for.ensures

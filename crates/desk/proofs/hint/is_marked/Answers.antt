@@ -1,31 +1,21 @@
 -- `desk::hint::is_marked` meets its contract. Assumes nothing.
-use lib.ListN.{length}
-use native.Mathlib.Omega.{arith}
-use borrow.Author.Tests.{le-leb, lt-leb, ne_eqb}
+use Rattle.std.proofs.Common.{◌≡◌, ℕ, Bool, true, false, ◌&&◌, List, [], ◌∷◌, take, refl, ◌∙◌, arith}
+use lib.Dec.{eqb}
+use Rattle.std.specs.Cmp.Lexicographic.{pointwise}
+use Rattle.std.proofs.lemmas.Bool.Decides.{nat_tests}
 use Rattle.desk.specs.Hint.{marked}
 use Rattle.desk.proofs.hint.is_marked.Goals as goal
 
-pub returns-then-line-lt3 : goal.returns-then-line-lt3
+and-false : (b : Bool) → (b && false) ≡ false
+and-false true = refl
+and-false false = refl
+
+marked-is : (l : List ℕ) → pointwise eqb (239 ∷ 187 ∷ 191 ∷ []) (take 3 l) ≡ marked l
 unfolding marked
-returns-then-line-lt3 c = rw (lt-leb 3 (length c.args.line.now) (omega arith))
-
-pub bounds-line-0 : goal.bounds-line-0
-bounds-line-0 c = omega arith
-
-pub returns-then-line : goal.returns-then-line
-unfolding marked
-returns-then-line c = rw (le-leb 3 (length c.args.line.now) (omega arith), ne_eqb _ 239 c.if-line.true)
-
-pub bounds-line-1 : goal.bounds-line-1
-bounds-line-1 c = omega arith
-
-pub returns-then-line-2 : goal.returns-then-line-2
-unfolding marked
-returns-then-line-2 c = rw (le-leb 3 (length c.args.line.now) (omega arith), c.if-line.false, ne_eqb _ 187 c.if-line-2.true)
-
-pub bounds-line-2 : goal.bounds-line-2
-bounds-line-2 c = omega arith
+marked-is [] = refl
+marked-is (x ∷ []) = and-false (eqb 239 x)
+marked-is (x ∷ y ∷ []) = grind (arith, nat_tests, and-false)
+marked-is (x ∷ y ∷ z ∷ l) = grind (arith, nat_tests)
 
 pub returns : goal.returns
-unfolding marked
-returns c = rw (le-leb 3 (length c.args.line.now) (omega arith), c.if-line.false, c.if-line-2.false)
+returns c = c.starts_with.ensures.value ∙ marked-is c.args.line.now

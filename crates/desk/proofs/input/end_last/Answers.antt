@@ -16,7 +16,7 @@ returns-then-not-u c =
     let input = c.args.input.now in
     record {
       within = record { ordered = omega arith; inside = omega arith };
-      ends = record { bytes = end_empty u input c.requires.kept c.if-to-eq0.true (not-true _ c.if-not-u.true); ended = refl; failed = refl };
+      ends = record { bytes = end_empty u input c.requires.kept c.if-to-eq0.true (not-true _ c.if-not-u.true); ended = refl };
     }
 
 pub returns : goal.returns
@@ -29,5 +29,5 @@ returns c =
     ] in
     record {
       within = record { ordered = omega arith; inside = simp length-set (omega arith) };
-      ends = record { bytes = end_line u input c.requires.kept (end-some u input c.requires.kept c.requires.in_bounds some) (omega arith) c.requires.input_value; ended = refl; failed = refl };
+      ends = record { bytes = end_line u input c.requires.kept (end-some u input c.requires.kept c.requires.in_bounds some) (omega arith) c.requires.input_value; ended = refl };
     }

@@ -1,40 +1,37 @@
 -- `desk::input::take_mode` meets its contract. Assumes nothing.
+use Rattle.std.proofs.Common.{◌+◌, sym, ap, ◌∙◌, arith}
+use Rattle.desk.specs.Input.{taking}
 use Rattle.desk.proofs.Laws.{moded}
-use Rattle.desk.proofs.LineLaws.{part-next, part_none, line-long, mode-cut, mode-none, mode_of}
-use mathlib.Core.Path.{◌≡◌}
-use Prim.Native.Nat.{◌+◌, ◌-◌, ◌≤◌, ◌<◌}
-use native.Mathlib.Omega.{arith}
+use Rattle.desk.proofs.LineLaws.{no-line, line-next, line-length, mode-cut, mode-none, mode_of}
 use Rattle.desk.proofs.input.take_mode.Goals as goal
-use Rattle.desk.proofs.input.take_mode.Goals.{then-u-via-then-u, then-u-via-else-u+then-end-to}
 
-pub returns-then-u : goal.returns-then-u
-returns-then-u c =
+pub returns-then-u-clause-value : goal.returns-then-u-clause-value
+returns-then-u-clause-value c = mode-cut c.args.u c.if-u.true _
+
+pub returns-in_err-end-clause-value : goal.returns-in_err-end-clause-value
+returns-in_err-end-clause-value c =
+    let u = c.args.u in
+    c.from_residual.ensures
+    ∙ mode-none u c.if-u.false (no-line c.args.input.now u.from u.to c.requires.ordered c.requires.inside (sym c.in_err-end.was ∙ c.line_end.ensures))
+
+pub returns-in_err-read_mode-clause-value : goal.returns-in_err-read_mode-clause-value
+returns-in_err-read_mode-clause-value c =
     let u = c.args.u in
     let input = c.args.input.now in
-    let end = c.line_end in
-    let all : u.from + end.result ≡ u.to → u.to - u.from ≤ end.result = λ e. omega arith in
-    record {
-      within = c.requires;
-      moded = tt;
-      value = elim c.then-u.branch [
-        | then-u-via-then-u w ↦ mode-cut u w.if-u.true _
-        | then-u-via-else-u+then-end-to w ↦
-            mode-none u w.if-u.false
-            (part_none input u.from u.to end.result c.requires.ordered c.requires.inside end.ensures.value (all w.if-end-to.true))
-      ];
-    }
+    let e = sym c.in_ok-end.was ∙ c.line_end.ensures in
+    c.from_residual-in_err-read_mode.ensures
+    ∙ ap (taking u (u.from + c.in_ok-end.field-0 + 1)) (sym c.in_err-read_mode.was)
+    ∙ mode_of u c.if-u.false (line-next input u.from u.to c.requires.ordered c.requires.inside e) c.read_mode.ensures
+    (omega (arith, line-length input u.from u.to c.requires.ordered c.requires.inside e))
 
-pub returns : goal.returns
-returns c =
+pub returns-clause-moded : goal.returns-clause-moded
+returns-clause-moded c = moded _ c.read_mode.ensures c.in_ok-read_mode.was
+
+pub returns-clause-value : goal.returns-clause-value
+returns-clause-value c =
     let u = c.args.u in
     let input = c.args.input.now in
-    let end = c.line_end in
-    let some : (u.from + end.result ≡ u.to → ⊥) = c.if-end-to.false in
-    let inside : end.result < u.to - u.from = omega arith in
-    record {
-      within = record { ordered = omega arith; inside = omega arith };
-      moded = moded _ c.read_mode.ensures;
-      value = mode_of u c.if-u.false (part-next input u.from u.to end.result c.requires.ordered c.requires.inside end.ensures.value inside)
-          c.read_mode.ensures
-          (omega (arith, line-long input u.from u.to end.result c.requires.ordered c.requires.inside end.ensures.value inside));
-    }
+    let e = sym c.in_ok-end.was ∙ c.line_end.ensures in
+    ap (taking u (u.from + c.in_ok-end.field-0 + 1)) (sym c.in_ok-read_mode.was)
+    ∙ mode_of u c.if-u.false (line-next input u.from u.to c.requires.ordered c.requires.inside e) c.read_mode.ensures
+    (omega (arith, line-length input u.from u.to c.requires.ordered c.requires.inside e))

@@ -1,39 +1,38 @@
 -- `desk::output::print_answer` meets its contract. Assumes nothing.
-use mathlib.Core.Path.{sym}
-use mathlib.Core.Bool.{true, false}
-use native.Mathlib.Omega.{arith}
-use lib.Seq.{length-take-le}
-use Rattle.desk.proofs.Laws.{put-within}
+use Rattle.std.proofs.Common.{◌≡◌, true, false, arith, rules}
+use Rattle.std.specs.Prelude.{None}
+use Rattle.std.specs.Result.{result_ok}
+use Rattle.desk.proofs.Laws.{some-by, put-within}
 use Rattle.desk.proofs.PrintLaws.{print-behind, print-stuck, print-front, print-never}
 use Rattle.desk.proofs.output.print_answer.Goals as goal
 
-pub returns-in-To : goal.returns-in-To
-returns-in-To c =
-    let call = c.put_answer in
+pub returns-in-Some-clause-filled : goal.returns-in-Some-clause-filled
+returns-in-Some-clause-filled c =
+    put-within c.args.number c.args.view c.args.rows.now c.args.out.now c.args.filled c.requires.filled_in_bounds c.in-Some.is c.put_answer.ensures
+
+pub returns-in-Some-clause-prints : goal.returns-in-Some-clause-prints
+returns-in-Some-clause-prints c =
+    record { written = true; leaves = print-behind c.args.number c.args.view c.args.rows.now c.args.out.now c.args.filled c.in-Some.is c.put_answer.ensures }
+
+pub returns-in_err-write_out-clause-prints : goal.returns-in_err-write_out-clause-prints
+returns-in_err-write_out-clause-prints c =
+    let failed : result_ok c.from_residual.result ≡ None = search rules in
     record {
-      filled = put-within c.args.number c.args.view c.args.rows.now c.args.out.now c.args.filled c.requires.filled_in_bounds
-          c.in-To.is call.ensures;
-      prints = record { written = true; leaves = print-behind c.args.number c.args.view c.args.rows.now c.args.out.now c.args.filled c.in-To.is call.ensures };
+      written = false;
+      leaves = rw failed (print-stuck c.args.number c.args.view c.args.rows.now c.args.out.now c.args.filled c.in_default.is c.put_answer.ensures);
     }
 
-pub slice_bounds-write_out-end-2 : goal.slice_bounds-write_out-end-2
-slice_bounds-write_out-end-2 c = sym (length-take-le _ _ (omega (arith, c.put_answer.auto.out, c.requires.filled_in_bounds)))
+pub unwrap-requires : goal.unwrap-requires
+unwrap-requires c =
+    some-by c.put_answer-2.result
+    (λ e. print-never c.args.number c.args.view c.args.rows.now c.args.out.now c.args.filled c.in_default.is c.put_answer.ensures c.requires.out_value e c.put_answer-2.ensures)
 
-pub returns-then-not-write_out : goal.returns-then-not-write_out
-returns-then-not-write_out c =
+pub returns-clause-filled : goal.returns-clause-filled
+returns-clause-filled c = put-within c.args.number c.args.view c.args.rows.now c.put_answer.new.out 0 (omega arith) c.unwrap.ensures c.put_answer-2.ensures
+
+pub returns-clause-prints : goal.returns-clause-prints
+returns-clause-prints c =
     record {
-      filled = omega arith;
-      prints = record { written = false; leaves = print-stuck c.args.number c.args.view c.args.rows.now c.args.out.now c.args.filled c.in_default.is c.put_answer.ensures };
-    }
-
-pub returns-in_default-put_answer : goal.returns-in_default-put_answer
-returns-in_default-put_answer c =
-    absurd (print-never c.args.number c.args.view c.args.rows.now c.args.out.now c.args.filled c.in_default.is c.put_answer.ensures c.requires.out_value c.in_default-put_answer.is c.put_answer-2.ensures)
-
-pub returns : goal.returns
-returns c =
-    let call = c.put_answer-2 in
-    record {
-      filled = put-within _ _ _ _ 0 (omega arith) c.in-To-put_answer.is call.ensures;
-      prints = record { written = true; leaves = print-front c.args.number c.args.view c.args.rows.now c.args.out.now c.args.filled c.in_default.is c.put_answer.ensures c.in-To-put_answer.is call.ensures };
+      written = true;
+      leaves = print-front c.args.number c.args.view c.args.rows.now c.args.out.now c.args.filled c.in_default.is c.put_answer.ensures c.unwrap.ensures c.put_answer-2.ensures;
     }

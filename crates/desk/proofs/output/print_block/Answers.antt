@@ -1,161 +1,65 @@
 -- `desk::output::print_block` meets its contract. The invariant: the order rows that the answers left count are still to come, and so
 -- are their texts. Assumes nothing.
-use Prim.Native.Nat.{ℕ, ◌+◌, ◌*◌, ◌≤◌}
-use mathlib.Core.Path.{◌≡◌, refl, ◌∙◌, ap}
-use native.Mathlib.Omega.{arith}
-use lib.ListN.{length, drop}
-use mathlib.Core.List.{List}
-use Rattle.desk.specs.Output.{counts, filled_to}
-use Rattle.desk.proofs.Laws.{counts-next}
-use Rattle.desk.proofs.PrintLaws.{gathered-all, gathered-more, texts-next, texts-done, few-next, few-rest, room-front}
+use Rattle.std.proofs.Common.{◌*◌, ◌≡◌, ◌<◌, ◌∷◌, length, get_or, sym, ap, ◌∙◌, arith}
+use mathlib.Core.Logic.{inl, inr}
+use lib.ListN.{length-append, length-drop}
+use Rattle.std.specs.Slice.Iter.{chunks_exact_rest}
+use Rattle.std.specs.Iterator.Adapters.{zip_first, zip_second}
+use Rattle.std.specs.Result.{result_ok}
+use Rattle.lines.specs.Answer.{answer_text}
+use Rattle.desk.specs.Output.{counts, never_more, texts}
+use Rattle.desk.proofs.PrintLaws.{gathered-all, gathered-more, counts-next, texts-next, texts-done, few-next, few-rest, room-front}
 use Rattle.desk.proofs.output.print_block.Goals as goal
 
-pub loop-at-init : goal.loop-at-init
-loop-at-init c = (omega arith, omega (arith, c.requires), omega arith, refl, λ r now p. p, c.requires.answers_value)
+pub split_at-requires : goal.split_at-requires
+split_at-requires c =
+    let i = c.loop-request.invariant in
+    let answer = c.in-Some.ensures.steps.1.1 in
+    omega (arith, c.from.ensures, ap counts answer.0 ∙ counts-next c.in-Some.answer.now _ (answer.1 ∙ i.3), i.5)
 
-pub overflow_sub-answers : goal.overflow_sub-answers
-overflow_sub-answers c = omega arith
+pub print_answer-requires-clause-out_value : goal.print_answer-requires-clause-out_value
+print_answer-requires-clause-out_value c =
+    let l = c.loop-request in
+    let answer = c.in-Some.ensures.steps.1.1 in
+    rw (c.split_at.ensures.front, c.from.ensures)
+    (room-front _ l.left.now l.out (few-next c.in-Some.answer.now _ (answer.1 ∙ l.invariant.3) (sym (ap never_more answer.0) ∙ l.invariant.8))
+    (omega (arith, l.invariant.7, c.requires.longest_in_bounds)))
 
-pub offset_bounds-requests-at : goal.offset_bounds-requests-at
-offset_bounds-requests-at c = omega arith
-
-pub bounds-requests-at : goal.bounds-requests-at
-bounds-requests-at c = omega arith
-
-pub offset_bounds-answers-at : goal.offset_bounds-answers-at
-offset_bounds-answers-at c = omega arith
-
-pub bounds-answers-at : goal.bounds-answers-at
-bounds-answers-at c = omega arith
-
-pub number_told-number-requires : goal.number_told-number-requires
-number_told-number-requires c = tt
-
-pub overflow_add-view : goal.overflow_add-view
-overflow_add-view c = omega arith
-
-pub offset_bounds-answers-at-in-loop-at : goal.offset_bounds-answers-at-in-loop-at
-offset_bounds-answers-at-in-loop-at c = omega arith
-
-pub bounds-answers-at-in-loop-at : goal.bounds-answers-at-in-loop-at
-bounds-answers-at-in-loop-at c = omega arith
-
-pub overflow_add-at : goal.overflow_add-at
-overflow_add-at c = omega arith
-
-pub offset_bounds-answers-at-in-loop-at-2 : goal.offset_bounds-answers-at-in-loop-at-2
-offset_bounds-answers-at-in-loop-at-2 c = omega arith
-
-pub bounds-answers-at-in-loop-at-2 : goal.bounds-answers-at-in-loop-at-2
-bounds-answers-at-in-loop-at-2 c = omega arith
-
-pub wide-requires : goal.wide-requires
-wide-requires c = tt
-
-pub overflow_mul-next : goal.overflow_mul-next
-overflow_mul-next c =
-    let answers_of : List ℕ = c.args.answers.now in
-    let orders-of : List ℕ = c.args.orders.now in
-    let used-more : c.loop-at.used + c.wide.result * 3
-    + counts (drop (c.loop-at.at + 3) answers_of) * 3 ≤ length orders-of = let l = c.loop-at in
-    omega (arith, counts-next answers_of l.at (omega arith), c.wide.ensures, l.invariant.1) in
-    omega (arith, used-more)
-
-pub overflow_add-next : goal.overflow_add-next
-overflow_add-next c =
-    let answers_of : List ℕ = c.args.answers.now in
-    let orders-of : List ℕ = c.args.orders.now in
-    let used-more : c.loop-at.used + c.wide.result * 3
-    + counts (drop (c.loop-at.at + 3) answers_of) * 3 ≤ length orders-of = let l = c.loop-at in
-    omega (arith, counts-next answers_of l.at (omega arith), c.wide.ensures, l.invariant.1) in
-    omega (arith, used-more)
-
-pub offset_bounds-orders-used : goal.offset_bounds-orders-used
-offset_bounds-orders-used c =
-    let answers_of : List ℕ = c.args.answers.now in
-    let orders-of : List ℕ = c.args.orders.now in
-    let used-more : c.loop-at.used + c.wide.result * 3
-    + counts (drop (c.loop-at.at + 3) answers_of) * 3 ≤ length orders-of = let l = c.loop-at in
-    omega (arith, counts-next answers_of l.at (omega arith), c.wide.ensures, l.invariant.1) in
-    omega (arith, used-more)
-
-pub slice_bounds-print_answer-count : goal.slice_bounds-print_answer-count
-slice_bounds-print_answer-count c = omega arith
-
-pub slice_bounds-print_answer-start : goal.slice_bounds-print_answer-start
-slice_bounds-print_answer-start c =
-    let answers_of : List ℕ = c.args.answers.now in
-    let orders-of : List ℕ = c.args.orders.now in
-    let used-more : c.loop-at.used + c.wide.result * 3
-    + counts (drop (c.loop-at.at + 3) answers_of) * 3 ≤ length orders-of = let l = c.loop-at in
-    omega (arith, counts-next answers_of l.at (omega arith), c.wide.ensures, l.invariant.1) in
-    omega (arith, used-more)
-
-pub slice_bounds-print_answer-end : goal.slice_bounds-print_answer-end
-slice_bounds-print_answer-end c =
-    let answers_of : List ℕ = c.args.answers.now in
-    let orders-of : List ℕ = c.args.orders.now in
-    let used-more : c.loop-at.used + c.wide.result * 3
-    + counts (drop (c.loop-at.at + 3) answers_of) * 3 ≤ length orders-of = let l = c.loop-at in
-    omega (arith, counts-next answers_of l.at (omega arith), c.wide.ensures, l.invariant.1) in
-    omega (arith, used-more)
-
-pub print_answer-p-requires : goal.print_answer-p-requires
-print_answer-p-requires c =
-    let l = c.loop-at in
-    let a = c.args.answers.now in
-    record {
-      filled_in_bounds = l.invariant.2;
-      out_value = room-front c.wide.result l.used c.args.orders.now l.out (omega (arith, c.wide.ensures, few-next a l.at (omega arith) l.invariant.5)) (omega (arith, l.invariant.3, c.requires.longest_in_bounds));
-    }
-
-pub shape_of-out-in_default : goal.shape_of-out-in_default
-shape_of-out-in_default c =
-    let call = c.print_answer-p in
-    call.auto.out ∙ c.loop-at.invariant.3
-
-pub returns-in_default : goal.returns-in_default
-returns-in_default c =
-    record {
-      filled = omega arith;
-      gathers = tt;
-    }
-
-pub overflow_add-at-in-loop-at : goal.overflow_add-at-in-loop-at
-overflow_add-at-in-loop-at c = omega arith
-
-pub loop-at-smaller : goal.loop-at-smaller
-loop-at-smaller c = omega arith
-
-pub loop-at-preserved : goal.loop-at-preserved
-loop-at-preserved c =
-    let answers_of : List ℕ = c.args.answers.now in
-    let orders-of : List ℕ = c.args.orders.now in
-    let used-more : c.loop-at.used + c.wide.result * 3
-    + counts (drop (c.loop-at.at + 3) answers_of) * 3 ≤ length orders-of = let l = c.loop-at in
-    omega (arith, counts-next answers_of l.at (omega arith), c.wide.ensures, l.invariant.1) in
-    let l = c.loop-at in
-    let call = c.print_answer-p in
-    let fits : filled_to call.result ≤ length call.new.out = call.ensures.filled in
-    let told : filled_to call.result ≡ c.in-To.e = ap filled_to c.in-To.is in
-    let more = texts-next c.args.requests.now c.args.answers.now c.args.orders.now l.at l.used (omega arith) c.requires.answers_in_bounds c.number_told-number.ensures c.wide.ensures in (
-      omega arith,
-      used-more,
-      omega arith,
-      call.auto.out ∙ l.invariant.3,
-      λ r now p.
-          l.invariant.4 r now
-          (rw more (gathered-more _ _ _ l.out l.end call.ensures.prints.written l.invariant.2 c.in-To.is call.ensures.prints.leaves r now p)),
-      few-rest c.args.answers.now l.at (omega arith) l.invariant.5,
+pub loop-request-preserved : goal.loop-request-preserved
+loop-request-preserved c =
+    let l = c.loop-request in
+    let i = l.invariant in
+    let steps = c.in-Some.ensures.steps in
+    let request = c.in-Some.request.now in
+    let answer = c.in-Some.answer.now in
+    let three = steps.0.1.1 ∙ i.2 in
+    let three' = steps.1.1.1 ∙ i.3 in
+    let requests = chunks_exact_rest (zip_first c.next.new.self) in
+    let answers = chunks_exact_rest (zip_second c.next.new.self) in
+    let rows = c.split_at.result.0.now in
+    let behind = c.split_at.result.1.now in
+    let number = c.number_told-number.result in
+    let view = get_or answer 1 0 in
+    let next : texts (chunks_exact_rest (zip_first l.request-iterator)) (chunks_exact_rest (zip_second l.request-iterator)) l.left.now
+    ≡ answer_text number view rows ∷ texts requests answers behind =
+    rw (steps.0.1.0, steps.1.1.0, texts-next request requests answer answers l.left.now three three', c.number_told-number.ensures, c.split_at.ensures.front, c.split_at.ensures.back, c.from.ensures) in
+    let put = c.print_answer in (
+      (omega (arith, steps.0.0, i.2), omega (arith, steps.1.0, i.3)),
+      tt,
+      steps.0.0 ∙ i.2,
+      steps.1.0 ∙ i.3,
+      omega (arith, i.4, simp length-append at (ap length steps.0.1.0), simp length-append at (ap length steps.1.1.0), three, three'),
+      omega (arith, c.from.ensures, ap counts steps.1.1.0 ∙ counts-next answer answers three', i.5, ap length c.split_at.ensures.back, length-drop (c.from.result * 3) l.left.now),
+      c.in_ok-end.ensures.filled,
+      put.auto.out ∙ i.7,
+      few-rest answer answers three' (sym (ap never_more steps.1.1.0) ∙ i.8),
+      λ r fin g. i.9 r fin (rw next (gathered-more number view rows l.out l.end put.ensures.prints.written i.6 (ap result_ok c.in_ok-end.was) put.ensures.prints.leaves r fin g)),
     )
 
-pub shape_of-out : goal.shape_of-out
-shape_of-out c = omega arith
-
-pub returns : goal.returns
-returns c =
-    let l = c.loop-at in
-    record {
-      filled = omega arith;
-      gathers = l.invariant.4 l.end l.out (rw (texts-done c.args.requests.now c.args.answers.now c.args.orders.now l.at l.used c.loop-at-test.false) (gathered-all l.end l.out));
-    }
+pub returns-clause-gathered : goal.returns-clause-gathered
+returns-clause-gathered c =
+    let l = c.loop-request in
+    let i = l.invariant in
+    let answers = chunks_exact_rest (zip_second l.request-iterator) in
+    let few : length answers < 3 = elim c.in-None.ensures.steps [ inl s ↦ omega (arith, s.1.1.0, i.2, i.4) | inr s ↦ omega (arith, s.1.1.0, i.3) ] in
+    i.9 l.end l.out (rw (texts-done (chunks_exact_rest (zip_first l.request-iterator)) answers l.left.now few) (gathered-all l.end l.out))

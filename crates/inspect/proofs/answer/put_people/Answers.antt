@@ -5,7 +5,7 @@ use Rattle.inspect.proofs.answer.put_people.Goals as goal
 
 pub returns : goal.returns
 returns c =
-    let w = c.put_words-a in
+    let w = c.put_text-a in
     let m = c.put_mode-b in
     let u = c.put_number-c in
     let f = c.put_number in

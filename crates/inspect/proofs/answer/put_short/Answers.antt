@@ -6,4 +6,4 @@ use Rattle.inspect.proofs.answer.put_short.Goals as goal
 
 pub returns : goal.returns
 unfolding short_text header_text
-returns c = put_then (omega arith) c.put_refused-end.ensures.puts c.put_words.ensures
+returns c = put_then (omega arith) c.put_refused-end.ensures.puts c.put_text.ensures

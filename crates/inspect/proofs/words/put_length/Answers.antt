@@ -6,4 +6,4 @@ use Rattle.inspect.proofs.words.put_length.Goals as goal
 
 pub returns : goal.returns
 unfolding length_text
-returns c = put_then (omega (arith, c.requires)) (rw c.start_of-n.ensures at c.put_number-end.ensures.puts) c.put_words.ensures
+returns c = put_then (omega (arith, c.requires)) (rw c.start_of-n.ensures at c.put_number-end.ensures.puts) c.put_text.ensures

@@ -5,13 +5,13 @@ use native.Mathlib.Omega.{arith}
 use Rattle.inspect.proofs.words.put_sentence.Goals as goal
 
 pub returns-in-Mark : goal.returns-in-Mark
-returns-in-Mark c = rw c.in-Mark.is c.put_words.ensures
+returns-in-Mark c = rw c.in-Mark.is c.put_text.ensures
 
 pub returns-in-Version : goal.returns-in-Version
-returns-in-Version c = rw c.in-Version.is c.put_words-in-Version.ensures
+returns-in-Version c = rw c.in-Version.is c.put_text-in-Version.ensures
 
 pub returns-in-Mode : goal.returns-in-Mode
-returns-in-Mode c = rw c.in-Mode.is c.put_words-in-Mode.ensures
+returns-in-Mode c = rw c.in-Mode.is c.put_text-in-Mode.ensures
 
 pub returns-in-Count : goal.returns-in-Count
 returns-in-Count c = rw c.in-Count.is c.put_count.ensures
@@ -21,4 +21,4 @@ returns-in-Length c =
     rw (sentence-length c.args.version c.args.h c.args.f _ c.in-Length.is c.requires.headed) c.put_length.ensures
 
 pub returns-in-Rule : goal.returns-in-Rule
-returns-in-Rule c = rw c.in-Rule.is (put_then (omega (arith, c.requires.at_in_bounds)) c.put_spot-end.ensures.puts c.put_rule.ensures)
+returns-in-Rule c = rw (c.in-Rule.is, ← c.rule_words.ensures.words) (put_then (omega (arith, c.requires.at_in_bounds)) c.put_spot-end.ensures.puts c.put_text-in-Rule.ensures)
