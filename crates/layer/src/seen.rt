@@ -21,9 +21,21 @@ pub struct Seen {
     pub leaver: User,
 }
 
+// The n vertices of a table, and nothing new: who leaves is never asked.
+pub fn as_laid(n: usize) -> Seen
+    ensures { result ≡ as_laid n }
+{
+    Seen {
+        vertices: n,
+        new: 0,
+        resources: 0,
+        leaver: User(0),
+    }
+}
+
 impl<'a> Foreseen<'a> {
-    // The n vertices of a table, and nothing new: who leaves is never asked.
-    pub fn as_laid(vertices: &'a [u8], n: usize) -> Foreseen<'a>
+    // A layer as it lies in its table.
+    pub fn in_table(vertices: &'a [u8], n: usize) -> Foreseen<'a>
         requires { (n * bytes ≤ length vertices.now) × (n < 65536) }
         ensures seen_value { result.seen ≡ as_laid n }
         ensures sets_value { sets_then result ≡ sets_in n vertices.now }
@@ -32,12 +44,7 @@ impl<'a> Foreseen<'a> {
             vertices,
             resources: &[],
             firsts: &[],
-            seen: Seen {
-                vertices: n,
-                new: 0,
-                resources: 0,
-                leaver: User(0),
-            },
+            seen: as_laid(n),
         }
     }
 }
