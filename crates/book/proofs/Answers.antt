@@ -30,32 +30,27 @@ use Rattle.rules.specs.declared.Fault.TheVariants.{Count, Rule}
 use Rattle.rules.specs.declared.Refusal.{Refusal}
 use Rattle.rules.specs.declared.Refusal.TheVariants.{ShortTable, ShortList}
 use Rattle.rules.specs.declared.Denial.TheVariants.{Refused, Faulty}
-use Rattle.rules.specs.declared.Loaded.TheVariants as load
-use Rattle.rules.specs.declared.Stored.TheVariants as store
-use Rattle.layer.specs.declared.table.Found.{Found}
-use Rattle.layer.specs.declared.table.Found.TheVariants as found
-use Rattle.layer.specs.declared.table.Found.TheVariants.{At}
-use Rattle.sound.specs.Check.{counts_of, nothing, judged_is, checked_by, checked}
-use Rattle.sound.specs.declared.Checked.{Checked}
-use Rattle.sound.specs.declared.Checked.TheVariants.{Sound, No}
-use Rattle.sound.specs.declared.every.Judged.{Judged}
-use Rattle.sound.specs.declared.every.Judged.TheVariants as judged
-use Rattle.sound.specs.declared.every.Judged.TheVariants.{Breaks}
+use Rattle.std.specs.Prelude as code
+use Rattle.std.specs.Result.{IsErrAnd}
+use Rattle.std.proofs.lemmas.Result.{err_from_is_err_and}
+use Rattle.std.specs.Prelude.{Some, None, Result, Ok, Err}
+use Rattle.sound.specs.Check.{unless, counts_of, checked}
 use Rattle.sound.proofs.Counted.{bad_counts, six-limits, counts-hold}
 use Rattle.theorems.proofs.RequestLaws.{common-none, common-passed, verdict-first}
 use Rattle.theorems.proofs.FaultLaws.{fault-none}
 use Rattle.theorems.proofs.SpotLaws.{sizes_of, There, spot-there}
 use Rattle.theorems.proofs.ByteLaws.{BookFits, sound-fits, sound-room, head-in}
 use Rattle.theorems.proofs.WriteLaws.{Exact, BookBytes, book-bytes, head_read, length-write, start-next, start-le}
-use Rattle.book.specs.Ready.{Loadable, Savable, Judgeable, Counted}
-use Rattle.book.specs.Wrongs.{wrong_is}
-use Rattle.book.specs.declared.Wrong.{Wrong}
-use Rattle.book.specs.declared.Wrong.TheVariants.{Nothing, First}
-use Rattle.book.proofs.Laws.{start_left, counts-left, start-fore, Cuts, parts, section-cut, sections-cut}
+use Rattle.book.specs.Ready.{Whole, Loadable, Savable, Judgeable, Counted}
+use Rattle.book.proofs.Laws.{start_left, counts-left, start-fore, Cuts, cuts, parts, section-cut, sections-cut}
 
 -- the answer x is no (the code tests `!x`)
 pub no : {s x : Bool} → x ≡ s → not x ≡ true → s ≡ false
 no {x = x} a e = sym a ∙ not-true x e
+
+-- the error e that a `?` passes on
+pub passed_on : {A E : Type 0} {e : E} (r : Result A E) → IsErrAnd r (λ y. y ≡ e) → r ≡ Err e
+passed_on r h = let p = err_from_is_err_and r h in p.1 ∙ ap (λ y. Err y) p.2
 
 -- ---- first_fault
 
@@ -86,28 +81,28 @@ unfolding head_in
 mode-read bs s e = ap (λ (h : Head). h.mode.0) e
 
 -- a count past its limit is found
-pub count-found : (h : Head) {c : Found} {i : ℕ} → c ≡ bad_counts h → c ≡ At i → (i < 6) × (bad_count h ≡ some (Count (get_or count_places i 0)))
+pub count-found : (h : Head) {c : code.Option ℕ} {i : ℕ} → c ≡ bad_counts h → c ≡ Some i → (i < 6) × (bad_count h ≡ some (Count (get_or count_places i 0)))
 unfolding bad_count when
 count-found h {c = c} {i = i} e a = go (ltb k 6) refl (sym e ∙ a)
   where
     k : ℕ
     k = first (λ c. not (in_limit c)) (limits_of h)
 
-    go : (b : Bool) → ltb k 6 ≡ b → cond b (At k) found.Nothing ≡ At i → (i < 6) × (cond (ltb k (length (limits_of h))) (some (Count (get_or count_places k 0))) none ≡ some (Count (get_or count_places i 0)))
+    go : (b : Bool) → ltb k 6 ≡ b → cond b (Some k) None ≡ Some i → (i < 6) × (cond (ltb k (length (limits_of h))) (some (Count (get_or count_places k 0))) none ≡ some (Count (get_or count_places i 0)))
     go true l q =
         let z : k ≡ i = cc in
         (omega (arith, ltb-true k 6 l), rw (six-limits h, l) (ap (λ (n : ℕ). some (Count (get_or count_places n 0))) z))
     go false l q = let z : ◌≡◌ {A = ℕ} 0 1 = cc in absurd (omega arith)
 
 -- and none is
-pub count_none : (h : Head) {c : Found} → c ≡ bad_counts h → c ≡ found.Nothing → bad_count h ≡ none
+pub count_none : (h : Head) {c : code.Option ℕ} → c ≡ bad_counts h → c ≡ None → bad_count h ≡ none
 unfolding bad_count when
 count_none h {c = c} e a = go (ltb k 6) refl (sym e ∙ a)
   where
     k : ℕ
     k = first (λ c. not (in_limit c)) (limits_of h)
 
-    go : (b : Bool) → ltb k 6 ≡ b → cond b (At k) found.Nothing ≡ found.Nothing → cond (ltb k (length (limits_of h))) (some (Count (get_or count_places k 0))) none ≡ none
+    go : (b : Bool) → ltb k 6 ≡ b → cond b (Some k) None ≡ None → cond (ltb k (length (limits_of h))) (some (Count (get_or count_places k 0))) none ≡ none
     go true l q = let z : ◌≡◌ {A = ℕ} 0 1 = cc in absurd (omega arith)
     go false l q = rw (six-limits h, l)
 
@@ -124,19 +119,19 @@ pub start-header : (bs : List ℕ) (s : Users) (k : ℕ) {v a : ℕ} {g : Head} 
 start-header bs s k {v = v} e ev eg = start-read bs k (e ∙ ap (λ (x : Head). start v x k) eg ∙ start_left v s (head_in bs) k) ev refl
 
 -- with all before them passed, the rules decide: g is the head where nobody has left, which mode, counts and length are judged by
-pub judgeable : (bs : List ℕ) (v : ℕ) (s : Users) (g h : Head) {c : Found} → v ≡ version_in bs → g ≡ left_by s (head_in bs) → h ≡ head_in bs → g.mode.0 ≤ 1
-    → c ≡ bad_counts g → c ≡ found.Nothing → length bs ≡ start v g 5 → Judgeable bs v h
+pub judgeable : (bs : List ℕ) (v : ℕ) (s : Users) (g h : Head) {c : code.Option ℕ} → v ≡ version_in bs → g ≡ left_by s (head_in bs) → h ≡ head_in bs → g.mode.0 ≤ 1
+    → c ≡ bad_counts g → c ≡ None → length bs ≡ start v g 5 → Judgeable bs v h
 judgeable bs v s g h ev eg eh m f n exact =
     let same : g ≡ left_by s h = eg ∙ ap (left_by s) (sym eh) in
     record {
       whole = record { version = ev; head = eh; exact = exact ∙ ap (λ (x : Head). start v x 5) same ∙ start_left v s h 5 };
-      within = sym (counts-left s h) ∙ ap counts_of (sym same) ∙ sym (counts-hold g m f (sym (ap nothing n)));
+      within = sym (counts-left s h) ∙ ap counts_of (sym same) ∙ sym (counts-hold g m f (ap code.is_some n));
     }
 
-pub by-rules : (bs : List ℕ) (v : ℕ) (h : Head) {w : Wrong} → Judgeable bs v h → fault bs ≡ rule_fault (version_in bs) (head_in bs) (first_rule (rules (read bs)))
-    → w ≡ wrong_is (rule_fault v h (first_rule (rules (read bs)))) → w ≡ wrong_is (fault bs)
+pub by-rules : (bs : List ℕ) (v : ℕ) (h : Head) {w : Result (Unit {0}) Fault} → Judgeable bs v h → fault bs ≡ rule_fault (version_in bs) (head_in bs) (first_rule (rules (read bs)))
+    → w ≡ unless (rule_fault v h (first_rule (rules (read bs)))) → w ≡ unless (fault bs)
 by-rules bs v h k r w =
-    w ∙ ap₂ (λ (x : ℕ) (y : Head). wrong_is (rule_fault x y (first_rule (rules (read bs))))) k.whole.version k.whole.head ∙ ap wrong_is (sym r)
+    w ∙ ap₂ (λ (x : ℕ) (y : Head). unless (rule_fault x y (first_rule (rules (read bs))))) k.whole.version k.whole.head ∙ ap unless (sym r)
 
 -- ---- place_of
 
@@ -162,9 +157,9 @@ missing-place v h e = sym (ap (place_of v h) e)
 
 -- ---- rule_fault
 
--- the stretches between the starts hold the rows that the head counts
-pub parts-room : (bs : List ℕ) (v : ℕ) (h : Head) (z a b c d : ℕ) → length bs ≡ start v h 5 → Cuts v h z a b c d → Room h (parts bs z a b c d)
-parts-room bs v h z a b c d exact cut = record {
+-- the sections hold the rows that the head counts
+sizes : (bs : List ℕ) (v : ℕ) (h : Head) (z a b c d : ℕ) → length bs ≡ start v h 5 → Cuts v h z a b c d → Room h (parts bs z a b c d)
+sizes bs v h z a b c d exact cut = record {
   inner_vertices = simp (length-take, length-drop) (omega arith);
   inner_tokens = simp (length-take, length-drop) (omega arith);
   outer_vertices = simp (length-take, length-drop) (omega arith);
@@ -172,18 +167,49 @@ parts-room bs v h z a b c d exact cut = record {
   resources = simp (length-take, length-drop) (omega arith);
 }
 
--- what the rules say j of the book in these stretches, they say of the one that is read
-pub read-judged : (bs : List ℕ) (v : ℕ) (h : Head) (z a b c d : ℕ) {j : Judged} → Judgeable bs v h → Cuts v h z a b c d
-    → j ≡ judged_is (first_rule (rules (book_in h (parts bs z a b c d)))) → j ≡ judged_is (first_rule (rules (read bs)))
-unfolding read
-read-judged bs v h z a b c d k cut e =
-    e ∙ ap (λ (x : Book). judged_is (first_rule (rules x))) (ap₂ book_in k.whole.head (sections-cut bs v h z a b c d k.whole cut))
+-- where they start
+starts : (v : ℕ) (h : Head) → Cuts v h (start v h 0) (start v h 1) (start v h 2) (start v h 3) (start v h 4)
+starts v h = cuts v h (start v h 0) (start v h 1) (start v h 2) (start v h 3) (start v h 4) refl refl refl refl refl
 
-judged-none : (o : Option (Letter × Spot)) → judged.Sound ≡ judged_is o → o ≡ none
+pub sections-room : {bs : List ℕ} {v : ℕ} {h : Head} {s : Tables} → Whole bs v h → s ≡ sections bs → Room h s
+sections-room {bs} {v} {h} w e =
+    subst (Room h) (sections-cut bs v h (start v h 0) (start v h 1) (start v h 2) (start v h 3) (start v h 4) w (starts v h) ∙ sym e)
+    (sizes bs v h (start v h 0) (start v h 1) (start v h 2) (start v h 3) (start v h 4) w.exact (starts v h))
+
+-- and are no longer than tables with room for those
+pub record Fits (s t : Tables) : Type 0 where
+  pub inner_vertices : 0 + length s.inner_vertices ≤ length t.inner_vertices
+  pub inner_tokens : 0 + length s.inner_tokens ≤ length t.inner_tokens
+  pub outer_vertices : 0 + length s.outer_vertices ≤ length t.outer_vertices
+  pub outer_tokens : 0 + length s.outer_tokens ≤ length t.outer_tokens
+  pub resources : 0 + length s.resources ≤ length t.resources
+
+fits : (bs : List ℕ) (v : ℕ) (h : Head) (t : Tables) (z a b c d : ℕ) → length bs ≡ start v h 5 → Cuts v h z a b c d → Room h t → Fits (parts bs z a b c d) t
+fits bs v h t z a b c d exact cut r = record {
+  inner_vertices = simp (length-take, length-drop) (omega (arith, cut, r));
+  inner_tokens = simp (length-take, length-drop) (omega (arith, cut, r));
+  outer_vertices = simp (length-take, length-drop) (omega (arith, cut, r));
+  outer_tokens = simp (length-take, length-drop) (omega (arith, cut, r));
+  resources = simp (length-take, length-drop) (omega (arith, cut, r, exact));
+}
+
+pub sections-fit : {bs : List ℕ} {v : ℕ} {h : Head} {t s : Tables} → Loadable bs v h t → s ≡ sections bs → Fits s t
+sections-fit {bs} {v} {h} {t} p e =
+    subst (λ (s : Tables). Fits s t) (sections-cut bs v h (start v h 0) (start v h 1) (start v h 2) (start v h 3) (start v h 4) p.whole (starts v h) ∙ sym e)
+    (fits bs v h t (start v h 0) (start v h 1) (start v h 2) (start v h 3) (start v h 4) p.whole.exact (starts v h) p.room)
+
+-- what the rules say j of the book in the sections, they say of the one that is read
+pub read-judged : (bs : List ℕ) (v : ℕ) (h : Head) {s : Tables} {j : Result (Unit {0}) (Letter × Spot)} → Judgeable bs v h → s ≡ sections bs
+    → j ≡ unless (first_rule (rules (book_in h s))) → j ≡ unless (first_rule (rules (read bs)))
+unfolding read
+read-judged bs v h k cut e =
+    e ∙ ap (λ (x : Book). unless (first_rule (rules x))) (ap₂ book_in k.whole.head cut)
+
+judged-none : (o : Option (Letter × Spot)) → Ok tt ≡ unless o → o ≡ none
 judged-none none e = refl
 judged-none (some r) e = let z : ◌≡◌ {A = ℕ} 0 1 = cc in absurd (omega arith)
 
-judged-some : (o : Option (Letter × Spot)) {l : Letter} {s : Spot} → Breaks l s ≡ judged_is o → o ≡ some (l, s)
+judged-some : (o : Option (Letter × Spot)) {l : Letter} {s : Spot} → Err (l, s) ≡ unless o → o ≡ some (l, s)
 judged-some none e = let z : ◌≡◌ {A = ℕ} 0 1 = cc in absurd (omega arith)
 judged-some (some r) {l} {s} e =
     let a : l ≡ r.0 = cc in
@@ -203,20 +229,20 @@ counted h t s e = go s (subst (λ (x : Head). There (counts x) s) (head-in h t) 
     go Missing e = tt
 
 -- a row that is told is one that the head counts
-pub spot-counted : (bs : List ℕ) (v : ℕ) (h : Head) (s : Spot) {j : Judged} {l : Letter} → Judgeable bs v h → j ≡ judged_is (first_rule (rules (read bs))) → j ≡ Breaks l s
+pub spot-counted : (bs : List ℕ) (v : ℕ) (h : Head) (s : Spot) {j : Result (Unit {0}) (Letter × Spot)} {l : Letter} → Judgeable bs v h → j ≡ unless (first_rule (rules (read bs))) → j ≡ Err (l, s)
     → Counted h s
 unfolding read
 spot-counted bs v h s k e a =
     subst (λ (x : Head). Counted x s) (sym k.whole.head) (counted (head_in bs) (sections bs) s (spot-there (read bs) (judged-some (first_rule (rules (read bs))) (sym a ∙ e))))
 
-pub rule-nothing : (v : ℕ) (h : Head) (b : Book) {j : Judged} → j ≡ judged_is (first_rule (rules b)) → j ≡ judged.Sound → Nothing ≡ wrong_is (rule_fault v h (first_rule (rules b)))
+pub rule-nothing : (v : ℕ) (h : Head) (b : Book) {j : Result (Unit {0}) (Letter × Spot)} → j ≡ unless (first_rule (rules b)) → j ≡ Ok tt → Ok tt ≡ unless (rule_fault v h (first_rule (rules b)))
 unfolding rule_fault
 rule-nothing v h b e a = rw (judged-none (first_rule (rules b)) (sym a ∙ e))
 
-pub rule-first : (v : ℕ) (h : Head) (b : Book) {j : Judged} {l : Letter} {s : Spot} {at : ℕ} → j ≡ judged_is (first_rule (rules b)) → j ≡ Breaks l s → at ≡ place_of v h s
-    → First (Rule l s at) ≡ wrong_is (rule_fault v h (first_rule (rules b)))
+pub rule-first : (v : ℕ) (h : Head) (b : Book) {j : Result (Unit {0}) (Letter × Spot)} {l : Letter} {s : Spot} {at : ℕ} → j ≡ unless (first_rule (rules b)) → j ≡ Err (l, s) → at ≡ place_of v h s
+    → Err (Rule l s at) ≡ unless (rule_fault v h (first_rule (rules b)))
 unfolding rule_fault
-rule-first v h b {l = l} {s = s} e a p = rw (judged-some (first_rule (rules b)) (sym a ∙ e)) (ap (λ (n : ℕ). First (Rule l s n)) p)
+rule-first v h b {l = l} {s = s} e a p = rw (judged-some (first_rule (rules b)) (sym a ∙ e)) (ap (λ (n : ℕ). Err (Rule l s n)) p)
 
 -- ---- section
 
@@ -233,25 +259,24 @@ section-within bs k a b e ea eb =
     (omega (arith, start-next v (head_in bs) k), omega (arith, start-le v (head_in bs) (suc k)))
 
 -- the bytes are a book where nothing is wrong, and else f is wrong first
-pub book-nothing : (bs : List ℕ) {w : Wrong} → w ≡ wrong_is (fault bs) → w ≡ Nothing → is_book bs ≡ true
+pub book-nothing : (bs : List ℕ) {w : Result (Unit {0}) Fault} → w ≡ unless (fault bs) → w ≡ Ok tt → is_book bs ≡ true
 book-nothing bs e a = (fault-none bs).0 (go (fault bs) (sym a ∙ e))
   where
-    go : (o : Option Fault) → Nothing ≡ wrong_is o → o ≡ none
+    go : (o : Option Fault) → Ok tt ≡ unless o → o ≡ none
     go none e = refl
     go (some f) e = let z : ◌≡◌ {A = ℕ} 0 1 = cc in absurd (omega arith)
 
-fault-first : (bs : List ℕ) {w : Wrong} {f : Fault} → w ≡ wrong_is (fault bs) → w ≡ First f → fault bs ≡ some f
+fault-first : (bs : List ℕ) {w : Result (Unit {0}) Fault} {f : Fault} → w ≡ unless (fault bs) → w ≡ Err f → fault bs ≡ some f
 fault-first bs {f = f} e a = go (fault bs) (sym a ∙ e)
   where
-    go : (o : Option Fault) → First f ≡ wrong_is o → o ≡ some f
+    go : (o : Option Fault) → Err f ≡ unless o → o ≡ some f
     go none e = let z : ◌≡◌ {A = ℕ} 0 1 = cc in absurd (omega arith)
     go (some g) e = cc
 
--- what is wrong first, in the cells
-pub section-broken : (bs : List ℕ) (k : ℕ) {w : Wrong} {f : Fault} {n at : ℕ} → w ≡ wrong_is (fault bs) → w ≡ First f → n ≡ fault_number f → at ≡ fault_place f
-    → part [] n at ≡ section_call bs k
+-- what is wrong first
+pub section-broken : (bs : List ℕ) (k : ℕ) {w : Result (Unit {0}) Fault} {f : Fault} → w ≡ unless (fault bs) → w ≡ Err f → part [] (fault_number f) (fault_place f) ≡ section_call bs k
 unfolding section_call part_by refusal_section first_some faulty_by
-section-broken bs k e a en ep = rw (fault-first bs e a) (ap₂ (part []) en ep)
+section-broken bs k e a = rw (fault-first bs e a)
 
 pub section-none : (bs : List ℕ) (k : ℕ) → is_book bs ≡ true → 5 ≤ k → part [] 1 0 ≡ section_call bs k
 unfolding section_call part_by refusal_section first_some faulty_by when
@@ -273,37 +298,35 @@ loadable bs v h t ev eh s k =
       room = subst (λ (x : Head). Room x t) (head_read bs ∙ sym eh) (sound-room (read bs) t b.sound' s);
     }
 
-pub read_short : (bs : List ℕ) (t : Tables) → short t ≡ true → loading (load.No (Refused ShortTable)) t ≡ read_call bs t
+pub read_short : (bs : List ℕ) (t : Tables) → short t ≡ true → loading (Err (Refused ShortTable)) t ≡ read_call bs t
 unfolding read_call load_by refusal_read first_some when
 read_short bs t s = rw s
 
-pub read-broken : (bs : List ℕ) (t : Tables) {w : Wrong} {f : Fault} → short t ≡ false → w ≡ wrong_is (fault bs) → w ≡ First f → loading (load.No (Faulty f)) t ≡ read_call bs t
+pub read-broken : (bs : List ℕ) (t : Tables) {w : Result (Unit {0}) Fault} {f : Fault} → short t ≡ false → w ≡ unless (fault bs) → w ≡ Err f → loading (Err (Faulty f)) t ≡ read_call bs t
 unfolding read_call load_by refusal_read first_some when faulty_by
 read-broken bs t s e a = rw (s, fault-first bs e a)
 
-pub read-given : (bs : List ℕ) (h : Head) (t u : Tables) → short t ≡ false → is_book bs ≡ true → h ≡ head_in bs → u ≡ laid (read bs) t → loading (load.Is h) u ≡ read_call bs t
+pub read-given : (bs : List ℕ) (h : Head) (t u : Tables) → short t ≡ false → is_book bs ≡ true → h ≡ head_in bs → u ≡ laid (read bs) t → loading (Ok h) u ≡ read_call bs t
 unfolding read_call load_by refusal_read first_some when faulty_by
-read-given bs h t u s e eh eu = rw (s, (fault-none bs).1 e) (ap₂ (λ (x : Head) (y : Tables). loading (load.Is x) y) eh eu)
+read-given bs h t u s e eh eu = rw (s, (fault-none bs).1 e) (ap₂ (λ (x : Head) (y : Tables). loading (Ok x) y) eh eu)
 
 -- ---- write
 
-by-none : (o : Option Refusal) → Sound ≡ checked_by o → o ≡ none
-unfolding checked_by
+by-none : (o : Option Refusal) → Ok tt ≡ unless o → o ≡ none
 by-none none e = refl
 by-none (some r) e = let z : ◌≡◌ {A = ℕ} 0 1 = cc in absurd (omega arith)
 
-by-some : (o : Option Refusal) (r : Refusal) → No r ≡ checked_by o → o ≡ some r
-unfolding checked_by
+by-some : (o : Option Refusal) (r : Refusal) → Err r ≡ unless o → o ≡ some r
 by-some none r e = let z : ◌≡◌ {A = ℕ} 0 1 = cc in absurd (omega arith)
 by-some (some q) r e = cc
 
 -- the check passed
-pub checked-sound : (h : Head) (t : Tables) {k : Checked} → k ≡ Sound → k ≡ checked h t → (short t ≡ false) × (sound (book_in h t) ≡ true)
+pub checked-sound : (h : Head) (t : Tables) {k : Result (Unit {0}) Refusal} → k ≡ Ok tt → k ≡ checked h t → (short t ≡ false) × (sound (book_in h t) ≡ true)
 unfolding checked common
 checked-sound h t p q = let (s, k, n) = common-none t (book_in h t) [] (by-none (verdict (common t (book_in h t))) (sym p ∙ q)) in (s, k)
 
 -- the check answers 13 or 12
-pub checked-no : (h : Head) (t : Tables) (r : Refusal) {k : Checked} → k ≡ No r → k ≡ checked h t → verdict (common t (book_in h t)) ≡ some r
+pub checked-no : (h : Head) (t : Tables) (r : Refusal) {k : Result (Unit {0}) Refusal} → k ≡ Err r → k ≡ checked h t → verdict (common t (book_in h t)) ≡ some r
 unfolding checked
 checked-no h t r p q = by-some (verdict (common t (book_in h t))) r (sym p ∙ q)
 
@@ -322,19 +345,19 @@ length-saved : (h : Head) (t : Tables) → length (write (book_in h t)) ≡ star
 length-saved h t = length-write (book_in h t) ∙ ap (λ (x : Head). start newest x 5) (head-in h t)
 
 -- 13 and 12
-pub write-refused : (h : Head) (t : Tables) (buffer : List ℕ) (r : Refusal) → verdict (common t (book_in h t)) ≡ some r → writing (store.No r) buffer ≡ write_call h t buffer
+pub write-refused : (h : Head) (t : Tables) (buffer : List ℕ) (r : Refusal) → verdict (common t (book_in h t)) ≡ some r → writing (Err r) buffer ≡ write_call h t buffer
 unfolding write_call write_by refusal_write
 write-refused h t buffer r e = rw (verdict-first (common t (book_in h t)) ((ShortList, ltb (length buffer) (length (write (book_in h t)))) ∷ []) e)
 
 pub write-short : (h : Head) (t : Tables) (buffer : List ℕ) → short t ≡ false → sound (book_in h t) ≡ true → length buffer < start newest h 5
-    → writing (store.No ShortList) buffer ≡ write_call h t buffer
+    → writing (Err ShortList) buffer ≡ write_call h t buffer
 unfolding write_call write_by refusal_write verdict
 write-short h t buffer s k l =
     rw (common-passed t (book_in h t) ((ShortList, ltb (length buffer) (length (write (book_in h t)))) ∷ []) s k, length-saved h t, lt-ltb (length buffer) (start newest h 5) l)
 
 pub write-given : (h : Head) (t : Tables) (buffer v : List ℕ) (n : ℕ) → short t ≡ false → sound (book_in h t) ≡ true → start newest h 5 ≤ length buffer
-    → n ≡ start newest h 5 → v ≡ stored 0 (write (book_in h t)) buffer → writing (store.Bytes n) v ≡ write_call h t buffer
+    → n ≡ start newest h 5 → v ≡ stored 0 (write (book_in h t)) buffer → writing (Ok n) v ≡ write_call h t buffer
 unfolding write_call write_by refusal_write verdict
 write-given h t buffer v n s k l en ev =
     rw (common-passed t (book_in h t) ((ShortList, ltb (length buffer) (length (write (book_in h t)))) ∷ []) s k, le-ltb (length buffer) (length (write (book_in h t))) (omega (arith, length-saved h t)))
-    (ap₂ (λ (x : ℕ) (y : List ℕ). writing (store.Bytes x) y) (en ∙ sym (length-saved h t)) ev)
+    (ap₂ (λ (x : ℕ) (y : List ℕ). writing (Ok x) y) (en ∙ sym (length-saved h t)) ev)

@@ -18,7 +18,7 @@ use Rattle.rules.specs.declared.Head.{Head}
 use Rattle.sound.specs.Check.{counts_of}
 use Rattle.theorems.proofs.ByteLaws.{TableBytes, head-in, sections-in}
 use Rattle.theorems.proofs.WriteLaws.{front, length_front, Exact, start-next, sections-read}
-use Rattle.book.specs.Ready.{Whole, Loadable, Savable}
+use Rattle.book.specs.Ready.{Whole, Savable}
 
 -- ---- version, set of leavers and head
 
@@ -162,18 +162,18 @@ pub whole-exact : (bs : List ℕ) (v : ℕ) (h : Head) → Whole bs v h → Exac
 whole-exact bs v h w = w.exact ∙ ap₂ (λ (x : ℕ) (y : Head). start x y 5) w.version w.head
 
 -- tables with the stretches stored in them hold the book that was read
-pub loaded : (bs : List ℕ) (v : ℕ) (h : Head) (t u : Tables) (z a b c d : ℕ) → Loadable bs v h t → Bytes bs → Cuts v h z a b c d
-    → u.inner_vertices ≡ stored 0 (parts bs z a b c d).inner_vertices t.inner_vertices
-    → u.inner_tokens ≡ stored 0 (parts bs z a b c d).inner_tokens t.inner_tokens
-    → u.outer_vertices ≡ stored 0 (parts bs z a b c d).outer_vertices t.outer_vertices
-    → u.outer_tokens ≡ stored 0 (parts bs z a b c d).outer_tokens t.outer_tokens
-    → u.resources ≡ stored 0 (parts bs z a b c d).resources t.resources
+pub loaded : (bs : List ℕ) (v : ℕ) (h : Head) (t u : Tables) {s : Tables} → Whole bs v h → Bytes bs → s ≡ sections bs
+    → u.inner_vertices ≡ stored 0 s.inner_vertices t.inner_vertices
+    → u.inner_tokens ≡ stored 0 s.inner_tokens t.inner_tokens
+    → u.outer_vertices ≡ stored 0 s.outer_vertices t.outer_vertices
+    → u.outer_tokens ≡ stored 0 s.outer_tokens t.outer_tokens
+    → u.resources ≡ stored 0 s.resources t.resources
     → u ≡ laid (read bs) t
 unfolding laid sections
-loaded bs v h t u z a b c d p byte cut iv it ov ot rs =
+loaded bs v h t u w byte e iv it ov ot rs =
     (λ i. tables (iv i) (it i) (ov i) (ot i) (rs i))
-    ∙ ap lay (sections-cut bs v h z a b c d p.whole cut)
-    ∙ ap (λ (ps : List (List ℕ)). lay (tables (get_or ps 0 []) (get_or ps 1 []) (get_or ps 2 []) (get_or ps 3 []) (get_or ps 4 []))) (sym (sections-read bs byte (whole-exact bs v h p.whole)))
+    ∙ ap lay e
+    ∙ ap (λ (ps : List (List ℕ)). lay (tables (get_or ps 0 []) (get_or ps 1 []) (get_or ps 2 []) (get_or ps 3 []) (get_or ps 4 []))) (sym (sections-read bs byte (whole-exact bs v h w)))
   where
     lay : Tables → Tables
     lay s =

@@ -22,8 +22,7 @@ use Rattle.rules.specs.declared.Refusal.TheVariants.{ShortTable, ShortList}
 use Rattle.rules.specs.declared.Denial.{Denial}
 use Rattle.rules.specs.declared.Denial.TheVariants.{Refused}
 use Rattle.rules.specs.declared.Fault.{Fault}
-use Rattle.rules.specs.declared.Loaded.TheVariants as load
-use Rattle.rules.specs.declared.Stored.TheVariants as store
+use Rattle.std.specs.Prelude.{Ok}
 use Rattle.theorems.proofs.RequestLaws.{common-none}
 use Rattle.theorems.proofs.FaultLaws.{fault-none}
 use Rattle.theorems.proofs.ByteLaws.{sound-fits, sound-book-laid, sound-room, short-laid, head-in}
@@ -39,14 +38,14 @@ pub record Wrote (h : Head) (t : Tables) (buffer : List ℕ) (n : ℕ) : Type 0 
   pub bytes : n ≡ length (write (book_in h t))
   pub buffer' : (write_call h t buffer).buffer ≡ stored 0 (write (book_in h t)) buffer
 
-pub wrote : (h : Head) (t : Tables) (buffer : List ℕ) (n : ℕ) → (write_call h t buffer).answer ≡ store.Bytes n → Wrote h t buffer n
+pub wrote : (h : Head) (t : Tables) (buffer : List ℕ) (n : ℕ) → (write_call h t buffer).answer ≡ Ok n → Wrote h t buffer n
 unfolding write_call write_by refusal_write
 wrote h t buffer n = go (refusal_write t b (length buffer)) refl
   where
     b : Book
     b = book_in h t
 
-    go : (o : Option Refusal) → refusal_write t b (length buffer) ≡ o → (write_by o b buffer).answer ≡ store.Bytes n → Wrote h t buffer n
+    go : (o : Option Refusal) → refusal_write t b (length buffer) ≡ o → (write_by o b buffer).answer ≡ Ok n → Wrote h t buffer n
     go (some r) e a = let z : ◌≡◌ {A = ℕ} 0 1 = cc in absurd (omega arith)
     go none e a =
         let (l, s, room) = common-none t b ((ShortList, ltb (length buffer) (length (write b))) ∷ []) e in
@@ -65,11 +64,11 @@ passed true o e = let z : ◌≡◌ {A = ℕ} 0 1 = cc in absurd (omega arith)
 passed false (some f) e = let z : ◌≡◌ {A = ℕ} 0 1 = cc in absurd (omega arith)
 passed false none e = (refl, refl)
 
-pub loads : (bs : List ℕ) (t : Tables) (h : Head) → (read_call bs t).answer ≡ load.Is h → Loads bs t h
+pub loads : (bs : List ℕ) (t : Tables) (h : Head) → (read_call bs t).answer ≡ Ok h → Loads bs t h
 unfolding read_call load_by refusal_read
 loads bs t h = go (refusal_read t bs) refl
   where
-    go : (o : Option Denial) → refusal_read t bs ≡ o → (load_by o bs t).answer ≡ load.Is h → Loads bs t h
+    go : (o : Option Denial) → refusal_read t bs ≡ o → (load_by o bs t).answer ≡ Ok h → Loads bs t h
     go (some r) e a = let z : ◌≡◌ {A = ℕ} 0 1 = cc in absurd (omega arith)
     go none e a =
         let (l, b) = passed (short t) (fault bs) e in
@@ -78,8 +77,8 @@ loads bs t h = go (refusal_read t bs) refl
 -- ---- reading what was written
 
 -- the bytes that a write left are read, into any tables that are long enough: the head that was written, and the rows of its book
-pub written_read : (h : Head) (t u : Tables) (buffer : List ℕ) (n : ℕ) → (write_call h t buffer).answer ≡ store.Bytes n → short u ≡ false
-    → read_call (take n (write_call h t buffer).buffer) u ≡ loading (load.Is h) (laid (book_in h t) u)
+pub written_read : (h : Head) (t u : Tables) (buffer : List ℕ) (n : ℕ) → (write_call h t buffer).answer ≡ Ok n → short u ≡ false
+    → read_call (take n (write_call h t buffer).buffer) u ≡ loading (Ok h) (laid (book_in h t) u)
 written_read h t u buffer n a s =
     let w : Wrote h t buffer n = wrote h t buffer n a in
     let b : Book = book_in h t in
@@ -89,7 +88,7 @@ written_read h t u buffer n a s =
     ∙ sym (read-given (write b) h u (laid b u) s (is-book b w.sound') head (ap (λ (x : Book). laid x u) (sym (sound-read-write b w.sound'))))
 
 -- the tables then hold the same book
-pub same_rows : (h : Head) (t u : Tables) (buffer : List ℕ) (n : ℕ) → (write_call h t buffer).answer ≡ store.Bytes n → short u ≡ false
+pub same_rows : (h : Head) (t u : Tables) (buffer : List ℕ) (n : ℕ) → (write_call h t buffer).answer ≡ Ok n → short u ≡ false
     → book_in h (read_call (take n (write_call h t buffer).buffer) u).tables ≡ book_in h t
 same_rows h t u buffer n a s =
     ap (λ l. book_in h l.tables) (written_read h t u buffer n a s)
@@ -98,8 +97,8 @@ same_rows h t u buffer n a s =
 -- ---- writing what was read
 
 -- the head and tables that a read left are written, into any buffer with room: the bytes that were read, in the newest version
-pub read-written : (bs : List ℕ) (t : Tables) (h : Head) (buffer : List ℕ) → Bytes bs → (read_call bs t).answer ≡ load.Is h → length (renewed bs) ≤ length buffer
-    → write_call h (read_call bs t).tables buffer ≡ writing (store.Bytes (length (renewed bs))) (stored 0 (renewed bs) buffer)
+pub read-written : (bs : List ℕ) (t : Tables) (h : Head) (buffer : List ℕ) → Bytes bs → (read_call bs t).answer ≡ Ok h → length (renewed bs) ≤ length buffer
+    → write_call h (read_call bs t).tables buffer ≡ writing (Ok (length (renewed bs))) (stored 0 (renewed bs) buffer)
 read-written bs t h buffer byte a room =
     let l : Loads bs t h = loads bs t h a in
     let k : BookBytes bs = book-bytes bs l.book in
@@ -115,13 +114,13 @@ read-written bs t h buffer byte a room =
     )
 
 -- the buffer then begins with them
-pub new-bytes : (bs : List ℕ) (t : Tables) (h : Head) (buffer : List ℕ) → Bytes bs → (read_call bs t).answer ≡ load.Is h → length (renewed bs) ≤ length buffer
+pub new-bytes : (bs : List ℕ) (t : Tables) (h : Head) (buffer : List ℕ) → Bytes bs → (read_call bs t).answer ≡ Ok h → length (renewed bs) ≤ length buffer
     → take (length (renewed bs)) (write_call h (read_call bs t).tables buffer).buffer ≡ renewed bs
 new-bytes bs t h buffer byte a room =
     ap (λ w. take (length (renewed bs)) w.buffer) (read-written bs t h buffer byte a room) ∙ stored-first (renewed bs) buffer
 
 -- with the very bytes that were read, where they are of that version
-pub same_bytes : (bs : List ℕ) (t : Tables) (h : Head) (buffer : List ℕ) → Bytes bs → version_in bs ≡ newest → (read_call bs t).answer ≡ load.Is h → length bs ≤ length buffer
+pub same_bytes : (bs : List ℕ) (t : Tables) (h : Head) (buffer : List ℕ) → Bytes bs → version_in bs ≡ newest → (read_call bs t).answer ≡ Ok h → length bs ≤ length buffer
     → take (length bs) (write_call h (read_call bs t).tables buffer).buffer ≡ bs
 unfolding renewed
 same_bytes bs t h buffer byte v a room =
@@ -129,8 +128,8 @@ same_bytes bs t h buffer byte v a room =
     subst (λ (x : List ℕ). length x ≤ length buffer → take (length x) (write_call h (read_call bs t).tables buffer).buffer ≡ x) same (new-bytes bs t h buffer byte a) room
 
 -- a book of version 1 and what is written of it are read as the same head and rows
-pub read_again : (bs : List ℕ) (t u : Tables) (h : Head) → Bytes bs → (read_call bs t).answer ≡ load.Is h → short u ≡ false
-    → read_call (renewed bs) u ≡ loading (load.Is h) (laid (read bs) u)
+pub read_again : (bs : List ℕ) (t u : Tables) (h : Head) → Bytes bs → (read_call bs t).answer ≡ Ok h → short u ≡ false
+    → read_call (renewed bs) u ≡ loading (Ok h) (laid (read bs) u)
 read_again bs t u h byte a s =
     let l : Loads bs t h = loads bs t h a in
     let same : read (renewed bs) ≡ read bs = read-renewed bs byte l.book in

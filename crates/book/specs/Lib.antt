@@ -1,2 +1,2 @@
 pub mod Ready
-pub mod Wrongs
+pub mod Parts

@@ -1,31 +1,26 @@
-// The book as bytes: sections, reading and writing. The five tables are iv, it, ov, ot, rs: inner vertices and tokens, outer vertices and tokens, resources.
+// The book as bytes: sections, reading and writing.
 #![tactic(auto)]
 
 ghost use Rattle.std.specs.Prelude.{◌≡◌, ◌||◌, ◌++◌, ◌+◌, ◌*◌, ◌≤◌, ◌<◌, eqb, length, take, get_or};
 ghost use Rattle.rows.specs.Number.{stored};
 ghost use Rattle.sets.specs.Words.{bytes, set_in};
-ghost use Rattle.book.specs.Ready.{Loadable, Savable, Judgeable, Counted};
-ghost use Rattle.book.specs.Wrongs.{wrong_is};
+ghost use Rattle.book.specs.Ready.{Whole, Loadable, Savable, Judgeable, Counted};
+ghost use Rattle.book.specs.Parts.{part_of};
+ghost use Rattle.sound.specs.Check.{unless};
 ghost use Rattle.rules.specs.Tests.{first_rule};
 ghost use Rattle.rules.specs.Sound.{rules};
 ghost use Rattle.rules.specs.Calls.{section_call, read_call, write_call, part, loading, writing};
-ghost use Rattle.rules.specs.Bytes.{newest, fault, rule_fault, place_of, tables, version_in, fore, leavers_in, head_in, set_row, header, counts, start, laid, read, book_in, write, left_by, header_bytes, known};
+ghost use Rattle.theorems.proofs.ByteLaws.{TableBytes};
+ghost use Rattle.rules.specs.Bytes.{Bytes, fault, rule_fault, place_of, tables_of, tables_mut, SameTables, version_in, fore, leavers_in, head_in, set_row, header, counts, start, sections, laid, read, book_in, write, left_by, header_bytes, known};
 
-use layer::table::Found;
+use rows::Number;
 use rules::{
-    Denial, Fault, Head, InnerTokens, InnerVertices, Joined, Loaded, Mode, OuterTokens,
-    OuterVertices, Refusal, Resources, Spot, Stored, WIDTHS, fault_number, fault_place,
+    BookTables, Denial, Fault, Head, InnerTokens, InnerVertices, Joined, Mode, OuterTokens,
+    OuterVertices, Refusal, Resources, Spot, Tables, TablesMut, WIDTHS,
 };
 use sets::Users;
-use sound::every::{Judged, bad_count, first_rule};
-use sound::{Checked, check, long_enough};
-
-// What is wrong with bytes: RULES 9.10.
-#[derive(Clone, Copy)]
-pub enum Wrong {
-    Nothing,
-    First(Fault),
-}
+use sound::every::{bad_count, first_rule};
+use sound::{check, long_enough};
 
 // The bytes of the header: RULES 9.2.
 pub const HEADER: usize = 17;
@@ -36,11 +31,12 @@ const NEWEST: u16 = 2;
 // Where each count starts in the header.
 const COUNT_PLACES: [usize; 6] = [6, 7, 9, 11, 13, 15];
 
+#[tactic(auto, unfolding(rules::specs::Bytes::version_in))]
 pub fn version_in(bytes: &[u8]) -> u16
     requires { header_bytes ≤ length bytes.now }
     ensures { result ≡ version_in bytes.now }
 {
-    rows::get2(bytes, 3)
+    u16::get(bytes, 3)
 }
 
 // Whether a version can be read.
@@ -68,7 +64,7 @@ fn leavers_in(bytes: &[u8]) -> Users
     if version_in(bytes) == 1 {
         return Users::empty();
     }
-    Users::read(bytes, HEADER)
+    Users::get(bytes, HEADER)
 }
 
 // The head that the header gives, where these have left.
@@ -78,11 +74,11 @@ pub fn header_in(bytes: &[u8], leavers: Users) -> Head
 {
     let mode = Mode(bytes[5] as u16);
     let users = Joined::new(bytes[6] as u16);
-    let resources = Resources::new(rows::get2(bytes, 7));
-    let inner_vertices = InnerVertices::new(rows::get2(bytes, 9));
-    let inner_tokens = InnerTokens::new(rows::get2(bytes, 11));
-    let outer_vertices = OuterVertices::new(rows::get2(bytes, 13));
-    let outer_tokens = OuterTokens::new(rows::get2(bytes, 15));
+    let resources = Resources::new(u16::get(bytes, 7));
+    let inner_vertices = InnerVertices::new(u16::get(bytes, 9));
+    let inner_tokens = InnerTokens::new(u16::get(bytes, 11));
+    let outer_vertices = OuterVertices::new(u16::get(bytes, 13));
+    let outer_tokens = OuterTokens::new(u16::get(bytes, 15));
     Head {
         mode,
         users,
@@ -112,18 +108,19 @@ fn put_front(buffer: &mut [u8], h: Head)
     buffer[0] = 0x54;
     buffer[1] = 0x4B;
     buffer[2] = 0x42;
-    rows::put2(buffer, 3, NEWEST);
+    NEWEST.put(buffer, 3);
     buffer[5] = h.mode.0 as u8;
     buffer[6] = h.users.0 as u8;
-    rows::put2(buffer, 7, h.resources.0);
-    rows::put2(buffer, 9, h.inner_vertices.0);
-    rows::put2(buffer, 11, h.inner_tokens.0);
-    rows::put2(buffer, 13, h.outer_vertices.0);
-    rows::put2(buffer, 15, h.outer_tokens.0);
-    h.leavers.write(buffer, HEADER);
+    h.resources.0.put(buffer, 7);
+    h.inner_vertices.0.put(buffer, 9);
+    h.inner_tokens.0.put(buffer, 11);
+    h.outer_vertices.0.put(buffer, 13);
+    h.outer_tokens.0.put(buffer, 15);
+    h.leavers.put(buffer, HEADER);
 }
 
-// How many rows section k has.
+// How many rows section k has. (A section goes by its number, as in a call of `section`.)
+#[tactic(auto, unfolding(rules::specs::Bytes::counts))]
 fn count_of(h: Head, k: usize) -> usize
     ensures { result ≡ get_or (counts h) k 0 }
 {
@@ -143,64 +140,73 @@ pub fn start_of(version: u16, h: Head, k: usize) -> usize
     ensures { result ≡ start version h k }
 {
     let mut at: usize = fore(version);
-    let mut i: usize = 0;
-    while i < k {
+    for i in 0..k {
         at += count_of(h, i) * WIDTHS[i];
-        i += 1;
     }
     at
 }
 
-// Bytes over the first of others.
-fn copy(from: &[u8], to: &mut [u8])
-    requires { length from.now ≤ length to.old }
-    ensures { to.new ≡ stored 0 from.now to.old }
+// Bytes over others, from `at` on.
+fn put(bytes: &[u8], buffer: &mut [u8], at: usize)
+    requires { at + length bytes.now ≤ length buffer.old }
+    ensures { buffer.new ≡ stored at bytes.now buffer.old }
 {
-    let mut i: usize = 0;
-    while i < from.len() {
-        to[i] = from[i];
-        i += 1;
-    }
+    buffer[at..at + bytes.len()].copy_from_slice(bytes);
 }
 
-// The five sections of a book into five tables.
-fn load(
-    bytes: &[u8],
-    version: u16,
-    h: Head,
-    iv: &mut [u8],
-    it: &mut [u8],
-    ov: &mut [u8],
-    ot: &mut [u8],
-    rs: &mut [u8],
-)
-    requires { Loadable bytes.now version h (tables iv.old it.old ov.old ot.old rs.old) }
-    ensures { (tables iv.new it.new ov.new ot.new rs.new) ≡ laid (read bytes.now) (tables iv.old it.old ov.old ot.old rs.old) }
+// The five sections of bytes of the exact length.
+fn sections_of(bytes: &[u8], version: u16, h: Head) -> Tables<'_>
+    requires { Whole bytes.now version h }
+    ensures { tables_of result ≡ sections bytes.now }
 {
     let z = start_of(version, h, 0);
     let a = start_of(version, h, 1);
     let b = start_of(version, h, 2);
     let c = start_of(version, h, 3);
     let d = start_of(version, h, 4);
-    copy(&bytes[z..a], iv);
-    copy(&bytes[a..b], it);
-    copy(&bytes[b..c], ov);
-    copy(&bytes[c..d], ot);
-    copy(&bytes[d..], rs);
+    BookTables {
+        inner_vertices: &bytes[z..a],
+        inner_tokens: &bytes[a..b],
+        outer_vertices: &bytes[b..c],
+        outer_tokens: &bytes[c..d],
+        resources: &bytes[d..],
+    }
 }
 
-// The first n bytes of a table into a buffer, from `at` on.
-fn put(table: &[u8], n: usize, buffer: &mut [u8], at: usize)
-    requires { (n ≤ length table.now) × (at + n ≤ length buffer.old) }
-    ensures { buffer.new ≡ stored at (take n table.now) buffer.old }
+// The five sections of a book into five tables.
+fn load(bytes: &[u8], version: u16, h: Head, t: &mut TablesMut<'_>)
+    requires { Loadable bytes.now version h (tables_mut t.old) }
+    ensures same { SameTables t.old t.new }
+    ensures value { tables_mut t.new ≡ laid (read bytes.now) (tables_mut t.old) }
 {
-    copy(&table[..n], &mut buffer[at..]);
+    let s = sections_of(bytes, version, h);
+    put(s.inner_vertices, t.inner_vertices, 0);
+    put(s.inner_tokens, t.inner_tokens, 0);
+    put(s.outer_vertices, t.outer_vertices, 0);
+    put(s.outer_tokens, t.outer_tokens, 0);
+    put(s.resources, t.resources, 0);
+}
+
+// What a table holds are bytes: a fact that the proofs need of it, and no code.
+fn is_bytes(table: &[u8])
+    ensures { Bytes table.now }
+{}
+
+// The same of five tables, which their type does not say.
+fn are_bytes(t: &Tables<'_>)
+    ensures { TableBytes (tables_of t.now) }
+{
+    is_bytes(t.inner_vertices);
+    is_bytes(t.inner_tokens);
+    is_bytes(t.outer_vertices);
+    is_bytes(t.outer_tokens);
+    is_bytes(t.resources);
 }
 
 // Header, set of leavers and sections, one after the other.
-fn save(h: Head, iv: &[u8], it: &[u8], ov: &[u8], ot: &[u8], rs: &[u8], buffer: &mut [u8])
-    requires { Savable h (tables iv.now it.now ov.now ot.now rs.now) buffer.old }
-    ensures { buffer.new ≡ stored 0 (write (book_in h (tables iv.now it.now ov.now ot.now rs.now))) buffer.old }
+fn save(h: Head, t: &Tables<'_>, buffer: &mut [u8])
+    requires { Savable h (tables_of t.now) buffer.old }
+    ensures { buffer.new ≡ stored 0 (write (book_in h (tables_of t.now))) buffer.old }
 {
     put_front(buffer, h);
     let z = start_of(NEWEST, h, 0);
@@ -208,11 +214,13 @@ fn save(h: Head, iv: &[u8], it: &[u8], ov: &[u8], ot: &[u8], rs: &[u8], buffer: 
     let b = start_of(NEWEST, h, 2);
     let c = start_of(NEWEST, h, 3);
     let d = start_of(NEWEST, h, 4);
-    put(iv, a - z, buffer, z);
-    put(it, b - a, buffer, a);
-    put(ov, c - b, buffer, b);
-    put(ot, d - c, buffer, c);
-    put(rs, start_of(NEWEST, h, 5) - d, buffer, d);
+    let end = start_of(NEWEST, h, 5);
+    are_bytes(t);
+    put(&t.inner_vertices[..a - z], buffer, z);
+    put(&t.inner_tokens[..b - a], buffer, a);
+    put(&t.outer_vertices[..c - b], buffer, b);
+    put(&t.outer_tokens[..d - c], buffer, c);
+    put(&t.resources[..end - d], buffer, d);
 }
 
 // Where the row, or the set of leavers, starts at which a rule is broken; a missing vertex has none.
@@ -228,133 +236,100 @@ fn place_of(version: u16, h: Head, s: Spot) -> usize
 }
 
 // The first rule that the book in the bytes breaks, where header and length are right.
-fn rule_fault(bytes: &[u8], version: u16, h: Head) -> Wrong
+fn rule_fault(bytes: &[u8], version: u16, h: Head) -> Result<(), Fault>
     requires { Judgeable bytes.now version h }
-    ensures { result ≡ wrong_is (rule_fault version h (first_rule (rules (read bytes.now)))) }
+    ensures { result ≡ unless (rule_fault version h (first_rule (rules (read bytes.now)))) }
 {
-    let z = start_of(version, h, 0);
-    let a = start_of(version, h, 1);
-    let b = start_of(version, h, 2);
-    let c = start_of(version, h, 3);
-    let d = start_of(version, h, 4);
-    let j = first_rule(
-        h,
-        &bytes[z..a],
-        &bytes[a..b],
-        &bytes[b..c],
-        &bytes[c..d],
-        &bytes[d..],
-    );
-    match j {
-        Judged::Sound => Wrong::Nothing,
-        Judged::Breaks(l, s) => Wrong::First(Fault::Rule(l, s, place_of(version, h, s))),
+    match first_rule(h, &sections_of(bytes, version, h)) {
+        Ok(()) => Ok(()),
+        Err((l, s)) => Err(Fault::Rule(l, s, place_of(version, h, s))),
     }
 }
 
 // The first fault of bytes, in the order of RULES 9.10. The set of leavers is read only where the length is right: there may be no such bytes.
-pub fn first_fault(bytes: &[u8]) -> Wrong
-    ensures { result ≡ wrong_is (fault bytes.now) }
+pub fn first_fault(bytes: &[u8]) -> Result<(), Fault>
+    ensures { result ≡ unless (fault bytes.now) }
 {
     if bytes.len() < HEADER {
-        return Wrong::First(Fault::Length(bytes.len()));
+        return Err(Fault::Length(bytes.len()));
     }
     if bytes[0] != 0x54 || bytes[1] != 0x4B || bytes[2] != 0x42 {
-        return Wrong::First(Fault::Mark);
+        return Err(Fault::Mark);
     }
     let version = version_in(bytes);
     if !known(version) {
-        return Wrong::First(Fault::Version);
+        return Err(Fault::Version);
     }
     let h = header_in(bytes, Users::empty());
     if h.mode.0 > 1 {
-        return Wrong::First(Fault::Mode);
+        return Err(Fault::Mode);
     }
-    let c = bad_count(h);
-    match c {
-        Found::At(i) => {
-            let at = COUNT_PLACES[i];
-            return Wrong::First(Fault::Count(at));
-        }
-        Found::Nothing => {}
+    if let Some(i) = bad_count(h) {
+        let at = COUNT_PLACES[i];
+        return Err(Fault::Count(at));
     }
     if bytes.len() != start_of(version, h, 5) {
-        return Wrong::First(Fault::Length(bytes.len()));
+        return Err(Fault::Length(bytes.len()));
     }
     rule_fault(bytes, version, head_in(bytes))
 }
 
-// A section of a book, "a part of the very bytes that were lent" (RULES 9.8); the refusal's number and place, or 0 and 0, go to the cells.
-pub fn section<'a>(bytes: &'a [u8], k: usize, cell: &mut u16, place: &mut usize) -> &'a [u8]
-    ensures { part result.now cell.new place.new ≡ section_call bytes.now k }
+// Section k of a book.
+fn section_of(bytes: &[u8], k: usize) -> Result<&[u8], Denial>
+    ensures { part_of result ≡ section_call bytes.now k }
 {
-    let w = first_fault(bytes);
-    match w {
-        Wrong::First(f) => {
-            *cell = fault_number(f);
-            *place = fault_place(f);
-            return &bytes[0..0];
-        }
-        Wrong::Nothing => {}
+    first_fault(bytes)?;
+    if k >= WIDTHS.len() {
+        return Err(Denial::Refused(Refusal::NoSuch));
     }
-    *place = 0;
-    if k >= 5 {
-        *cell = 1;
-        return &bytes[0..0];
-    }
-    *cell = 0;
     let version = version_in(bytes);
     let h = head_in(bytes);
     let from = start_of(version, h, k);
     let to = start_of(version, h, k + 1);
-    &bytes[from..to]
+    Ok(&bytes[from..to])
+}
+
+// A section of a book, "a part of the very bytes that were lent" (RULES 9.8); the refusal's number and place, or 0 and 0, go to the cells, as in C.
+pub fn section<'a>(bytes: &'a [u8], k: usize, cell: &mut u16, place: &mut usize) -> &'a [u8]
+    ensures { part result.now cell.new place.new ≡ section_call bytes.now k }
+{
+    match section_of(bytes, k) {
+        Ok(s) => {
+            *cell = 0;
+            *place = 0;
+            s
+        }
+        Err(d) => {
+            *cell = d.number();
+            *place = d.place();
+            &bytes[0..0]
+        }
+    }
 }
 
 // A book's bytes into the tables. The tables' old content is not judged.
-pub fn read(
-    bytes: &[u8],
-    iv: &mut [u8],
-    it: &mut [u8],
-    ov: &mut [u8],
-    ot: &mut [u8],
-    rs: &mut [u8],
-) -> Loaded
-    ensures { loading result (tables iv.new it.new ov.new ot.new rs.new) ≡ read_call bytes.now (tables iv.old it.old ov.old ot.old rs.old) }
+pub fn read(bytes: &[u8], t: &mut TablesMut<'_>) -> Result<Head, Denial>
+    ensures same { SameTables t.old t.new }
+    ensures value { loading result (tables_mut t.new) ≡ read_call bytes.now (tables_mut t.old) }
 {
-    if !long_enough(iv, it, ov, ot, rs) {
-        return Loaded::No(Denial::Refused(Refusal::ShortTable));
+    if !long_enough(&t.read()) {
+        return Err(Denial::Refused(Refusal::ShortTable));
     }
-    let w = first_fault(bytes);
-    match w {
-        Wrong::First(f) => return Loaded::No(Denial::Faulty(f)),
-        Wrong::Nothing => {}
-    }
+    first_fault(bytes)?;
     let h = head_in(bytes);
-    load(bytes, version_in(bytes), h, iv, it, ov, ot, rs);
-    Loaded::Is(h)
+    load(bytes, version_in(bytes), h, t);
+    Ok(h)
 }
 
 // The tables' book as bytes into the buffer: its length.
-pub fn write(
-    h: Head,
-    iv: &[u8],
-    it: &[u8],
-    ov: &[u8],
-    ot: &[u8],
-    rs: &[u8],
-    buffer: &mut [u8],
-) -> Stored
-    ensures { writing result buffer.new ≡ write_call h (tables iv.now it.now ov.now ot.now rs.now) buffer.old }
+pub fn write(h: Head, t: &Tables<'_>, buffer: &mut [u8]) -> Result<usize, Refusal>
+    ensures { writing result buffer.new ≡ write_call h (tables_of t.now) buffer.old }
 {
-    let k = check(h, iv, it, ov, ot, rs);
-    match k {
-        Checked::No(r) => Stored::No(r),
-        Checked::Sound => {
-            let end = start_of(NEWEST, h, 5);
-            if buffer.len() < end {
-                return Stored::No(Refusal::ShortList);
-            }
-            save(h, iv, it, ov, ot, rs, buffer);
-            Stored::Bytes(end)
-        }
+    check(h, t)?;
+    let end = start_of(NEWEST, h, 5);
+    if buffer.len() < end {
+        return Err(Refusal::ShortList);
     }
+    save(h, t, buffer);
+    Ok(end)
 }

@@ -1,5 +1,6 @@
 -- RULES 7.3 in C (8.9): a call whose result is not 0 leaves all that it was lent as it was, its cells too, but for a place, which is told.
 -- Assumes nothing.
+use Rattle.std.specs.Prelude.{Result, Ok, Err}
 use Prim.Native.Nat.{ℕ, zero, suc}
 use mathlib.Core.Path.{◌≡◌, refl, sym, ap, ◌∙◌}
 use mathlib.Core.Bool.{Bool, true, false, cond}
@@ -10,19 +11,14 @@ use Rattle.sets.specs.Words.{bytes}
 use Rattle.rules.specs.Bytes.{Tables}
 use Rattle.rules.specs.Refusals.{Request}
 use Rattle.rules.specs.Calls.{Change, change, view_call, Shown, open_call, section_call, Load, read_call, Write, write_call, Service, serve_call}
-use Rattle.rules.specs.declared.Changed.{Changed}
-use Rattle.rules.specs.declared.Changed.TheVariants as changed
-use Rattle.rules.specs.declared.Viewed.{Viewed}
-use Rattle.rules.specs.declared.Viewed.TheVariants as viewed
-use Rattle.rules.specs.declared.Opened.{Opened}
-use Rattle.rules.specs.declared.Opened.TheVariants as opened
-use Rattle.rules.specs.declared.Served.{Served}
-use Rattle.rules.specs.declared.Served.TheVariants as served
-use Rattle.rules.specs.declared.Loaded.{Loaded}
-use Rattle.rules.specs.declared.Loaded.TheVariants as loaded
-use Rattle.rules.specs.declared.Stored.{Stored}
-use Rattle.rules.specs.declared.Stored.TheVariants as written
 use Rattle.theorems.proofs.RefusedLaws.{change-refused, serve-refused, read-refused, open-refused, write-refused}
+use Rattle.rules.specs.declared.Applied.{Applied}
+use Rattle.rules.specs.declared.Chains.{Chains}
+use Rattle.rules.specs.declared.Denial.{Denial}
+use Rattle.rules.specs.declared.Head.{Head}
+use Rattle.rules.specs.declared.Refusal.{Refusal}
+use Rattle.rules.specs.declared.Served.{Served}
+use Rattle.rules.specs.declared.View.{View}
 use Rattle.host.specs.Answers.{head_length, head_from, answered, stretch_by, section_answer, Loads, loaded_as, read_by, read_answer, Writes, written_as, write_by, write_answer, Changes, changed_as, change_told, change_by, change_answer, insert_of, insert_answer, Views, viewed_as, view_as, view_answer, Opens, opened_as, open_by, open_answer, Serves, served_as, serve_told, serve_by, serve_answer}
 
 -- answers X with their result; `lent k` is what was lent, with the result k
@@ -48,9 +44,9 @@ c-change-refused q l t list n =
     c : Change
     c = change q (head_from l) t list
 
-    go : (a : Changed) → c.answer ≡ a → ((change_told c.answer l n).result ≡ 0 → ⊥) → change_by c l n ≡ changed_as (change_told c.answer l n).result l t list n
-    go (changed.Done h k) e ne = absurd (ne (ap (λ (a : Changed). (change_told a l n).result) e))
-    go (changed.No r) e ne =
+    go : (a : Result Applied Refusal) → c.answer ≡ a → ((change_told c.answer l n).result ≡ 0 → ⊥) → change_by c l n ≡ changed_as (change_told c.answer l n).result l t list n
+    go (Ok x) e ne = absurd (ne (ap (λ (a : Result Applied Refusal). (change_told a l n).result) e))
+    go (Err r) e ne =
         left-by (λ (x : Changes). x.told.result) (λ k. changed_as k l t list n) (λ (x : Change). change_by x l n) (change-refused q (head_from l) t list r e) refl
 
 pub c-insert-refused : (bs l : List ℕ) (t : Tables) (list : List ℕ) (n : ℕ)
@@ -69,9 +65,9 @@ c-serve-refused requests l t answers list n =
     c : Service
     c = serve_call requests (head_from l) t answers list
 
-    go : (a : Served) → c.answer ≡ a → ((serve_told c.answer l n).result ≡ 0 → ⊥) → serve_by c l n ≡ served_as (serve_told c.answer l n).result l t answers list n
-    go (served.Done h k) e ne = absurd (ne (ap (λ (a : Served). (serve_told a l n).result) e))
-    go (served.No r) e ne =
+    go : (a : Result Served Refusal) → c.answer ≡ a → ((serve_told c.answer l n).result ≡ 0 → ⊥) → serve_by c l n ≡ served_as (serve_told c.answer l n).result l t answers list n
+    go (Ok x) e ne = absurd (ne (ap (λ (a : Result Served Refusal). (serve_told a l n).result) e))
+    go (Err r) e ne =
         left-by (λ (x : Serves). x.told.result) (λ k. served_as k l t answers list n) (λ (x : Service). serve_by x l n)
         (serve-refused requests (head_from l) t answers list r e) refl
 
@@ -82,10 +78,10 @@ c-read-refused bs l t = short (ltb (length l) head_length)
     c : Load
     c = read_call bs t
 
-    go : (a : Loaded) → c.answer ≡ a → ((read_by c.answer l c.tables).result ≡ 0 → ⊥)
+    go : (a : Result Head Denial) → c.answer ≡ a → ((read_by c.answer l c.tables).result ≡ 0 → ⊥)
         → read_by c.answer l c.tables ≡ loaded_as (read_by c.answer l c.tables).result l t (read_by c.answer l c.tables).place
-    go (loaded.Is h) e ne = absurd (ne (ap (λ (a : Loaded). (read_by a l c.tables).result) e))
-    go (loaded.No d) e ne =
+    go (Ok h) e ne = absurd (ne (ap (λ (a : Result Head Denial). (read_by a l c.tables).result) e))
+    go (Err d) e ne =
         left-by {K = ℕ × ℕ} (λ (x : Loads). (x.result, x.place)) (λ k. loaded_as k.0 l t k.1) (λ (x : Load). read_by x.answer l x.tables) (read-refused bs t d e) refl
 
     short : (z : Bool)
@@ -102,10 +98,10 @@ c-write-refused l t buffer n =
     c : Write
     c = write_call (head_from l) t buffer
 
-    go : (a : Stored) → c.answer ≡ a → ((write_by c.answer c.buffer n).result ≡ 0 → ⊥)
+    go : (a : Result ℕ Refusal) → c.answer ≡ a → ((write_by c.answer c.buffer n).result ≡ 0 → ⊥)
         → write_by c.answer c.buffer n ≡ written_as (write_by c.answer c.buffer n).result buffer n
-    go (written.Bytes k) e ne = absurd (ne (ap (λ (a : Stored). (write_by a c.buffer n).result) e))
-    go (written.No r) e ne =
+    go (Ok k) e ne = absurd (ne (ap (λ (a : Result ℕ Refusal). (write_by a c.buffer n).result) e))
+    go (Err r) e ne =
         left-by (λ (x : Writes). x.result) (λ k. written_as k buffer n) (λ (x : Write). write_by x.answer x.buffer n) (write-refused (head_from l) t buffer r e) refl
 
 pub c-view-refused : (u r : ℕ) (l : List ℕ) (t : Tables) (n : ℕ) → let a = view_answer u r l t n in (a.result ≡ 0 → ⊥) → a ≡ viewed_as a.result n
@@ -113,9 +109,9 @@ unfolding view_answer view_as
 c-view-refused u r l t n =
     left-short (λ (x : Views). x.result) (λ k. viewed_as k n) (λ k. refl) (ltb (length l) head_length) (view_as (view_call u r (head_from l) t) n) (go (view_call u r (head_from l) t))
   where
-    go : (a : Viewed) → ((view_as a n).result ≡ 0 → ⊥) → view_as a n ≡ viewed_as (view_as a n).result n
-    go (viewed.Is v) ne = absurd (ne refl)
-    go (viewed.No k) ne = refl
+    go : (a : Result View Refusal) → ((view_as a n).result ≡ 0 → ⊥) → view_as a n ≡ viewed_as (view_as a n).result n
+    go (Ok v) ne = absurd (ne refl)
+    go (Err k) ne = refl
 
 pub c-open-refused : (u r : ℕ) (l : List ℕ) (t : Tables) (list : List ℕ) (i o : ℕ)
     → let a = open_answer u r l t list i o in (a.result ≡ 0 → ⊥) → a ≡ opened_as a.result list i o
@@ -126,10 +122,10 @@ c-open-refused u r l t list i o =
     c : Shown
     c = open_call u r (head_from l) t list
 
-    go : (a : Opened) → c.answer ≡ a → ((open_by c.answer c.list i o).result ≡ 0 → ⊥)
+    go : (a : Result Chains Refusal) → c.answer ≡ a → ((open_by c.answer c.list i o).result ≡ 0 → ⊥)
         → open_by c.answer c.list i o ≡ opened_as (open_by c.answer c.list i o).result list i o
-    go (opened.Chains m k) e ne = absurd (ne (ap (λ (a : Opened). (open_by a c.list i o).result) e))
-    go (opened.No k) e ne =
+    go (Ok x) e ne = absurd (ne (ap (λ (a : Result Chains Refusal). (open_by a c.list i o).result) e))
+    go (Err k) e ne =
         left-by (λ (x : Opens). x.result) (λ k. opened_as k list i o) (λ (x : Shown). open_by x.answer x.list i o) (open-refused u r (head_from l) t list k e) refl
 
 pub c-section-refused : (bs : List ℕ) (k s n : ℕ) → let a = section_answer bs k s n in (a.result ≡ 0 → ⊥) → a ≡ answered a.result s n a.place

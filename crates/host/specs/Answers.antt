@@ -1,7 +1,7 @@
 -- The C interface's answers, from the calls' definitions: numbers only. RULES 8.9: the refusal's number is the result, and the cells, whose content at entry
 -- comes last among the arguments, stay as they were; but a cell for the place takes what is told, whatever it held.
 -- Assumes nothing.
-use Rattle.std.specs.Prelude.{ℕ, zero, suc, ◌+◌, ◌*◌, ◌/◌, ◌%◌, cond, List, [], ◌∷◌, ltb, length, get_or}
+use Rattle.std.specs.Prelude.{ℕ, zero, suc, ◌+◌, ◌*◌, ◌/◌, ◌%◌, cond, List, [], ◌∷◌, ltb, length, get_or, Result, Ok, Err}
 use Rattle.std.proofs.Math.Option.{Option, some, none}
 use Rattle.rows.specs.Number.{cell, stored}
 use Rattle.sets.specs.Words.{bytes, set_in}
@@ -9,19 +9,13 @@ use Rattle.rules.specs.Bytes.{Tables, book_in, head, version_in, head_in, start}
 use Rattle.rules.specs.Refusals.{number, view_number, view_told, denial_number, denial_place, common, verdict, Request, inserts}
 use Rattle.rules.specs.Calls.{section_call, read_call, write_call, Change, change, view_call, open_call, Service, serve_call}
 use Rattle.rules.specs.declared.Head.{Head}
-use Rattle.rules.specs.declared.Refusal.{Refusal}
-use Rattle.rules.specs.declared.Changed.{Changed}
-use Rattle.rules.specs.declared.Changed.TheVariants as changed
-use Rattle.rules.specs.declared.Viewed.{Viewed}
-use Rattle.rules.specs.declared.Viewed.TheVariants as viewed
-use Rattle.rules.specs.declared.Opened.{Opened}
-use Rattle.rules.specs.declared.Opened.TheVariants as opened
+use Rattle.rules.specs.declared.Applied.{Applied}
+use Rattle.rules.specs.declared.Chains.{Chains}
+use Rattle.rules.specs.declared.Denial.{Denial}
 use Rattle.rules.specs.declared.Served.{Served}
-use Rattle.rules.specs.declared.Served.TheVariants as served
-use Rattle.rules.specs.declared.Loaded.{Loaded}
-use Rattle.rules.specs.declared.Loaded.TheVariants as loaded
-use Rattle.rules.specs.declared.Stored.{Stored}
-use Rattle.rules.specs.declared.Stored.TheVariants as written
+use Rattle.rules.specs.declared.View.{View}
+use Rattle.rules.specs.declared.Refusal.{Refusal}
+use Rattle.rules.specs.declared.Refusal.TheVariants.{ShortTable}
 
 -- which version of the interface answers: major * 10000 + minor * 100 + patch, here 4.0.0
 abbrev pub version : ℕ
@@ -55,12 +49,19 @@ head_numbers h =
     h.mode.0 ∷ h.users.0 ∷ h.resources.0 ∷ h.inner_vertices.0 ∷ h.inner_tokens.0 ∷ h.outer_vertices.0 ∷ h.outer_tokens.0
     ∷ set_numbers set_length (set_in h.leavers)
 
+-- a head of fewer numbers is 13
+abbrev pub head_read : List ℕ → Result Head Refusal
+head_read l = cond (ltb (length l) head_length) (Err ShortTable) (Ok (head_from l))
+
 -- 0, or the refusal's number
+abbrev pub number_of : Result (Unit {0}) Refusal → ℕ
+number_of (Ok x) = 0
+number_of (Err r) = number r
+
 abbrev pub told : Option Refusal → ℕ
 told none = 0
 told (some r) = number r
 
--- a head of fewer numbers is 13
 unfoldable pub check_answer : List ℕ → Tables → ℕ
 check_answer l t = cond (ltb (length l) head_length) 13 (told (verdict (common t (book_in (head_from l) t))))
 
@@ -91,9 +92,13 @@ pub record Loads : Type 0 where
 abbrev pub loaded_as : ℕ → List ℕ → Tables → ℕ → Loads
 loaded_as r l t at = record { result = r; head = l; tables = t; place = at }
 
-unfoldable pub read_by : Loaded → List ℕ → Tables → Loads
-read_by (loaded.No d) l t = loaded_as (denial_number d) l t (denial_place d)
-read_by (loaded.Is h) l t = loaded_as 0 (stored 0 (head_numbers h) l) t 0
+abbrev pub load_told : Result (Unit {0}) Denial → List ℕ → Tables → Loads
+load_told (Ok x) l t = loaded_as 0 l t 0
+load_told (Err d) l t = loaded_as (denial_number d) l t (denial_place d)
+
+unfoldable pub read_by : Result Head Denial → List ℕ → Tables → Loads
+read_by (Err d) l t = loaded_as (denial_number d) l t (denial_place d)
+read_by (Ok h) l t = loaded_as 0 (stored 0 (head_numbers h) l) t 0
 
 unfoldable pub read_answer : List ℕ → List ℕ → Tables → Loads
 read_answer bs l t = cond (ltb (length l) head_length) (loaded_as 13 l t 0) (read_by (read_call bs t).answer l (read_call bs t).tables)
@@ -107,9 +112,9 @@ pub record Writes : Type 0 where
 abbrev pub written_as : ℕ → List ℕ → ℕ → Writes
 written_as r b n = record { result = r; buffer = b; size = n }
 
-unfoldable pub write_by : Stored → List ℕ → ℕ → Writes
-write_by (written.No r) b n = written_as (number r) b n
-write_by (written.Bytes n) b old = written_as 0 b n
+unfoldable pub write_by : Result ℕ Refusal → List ℕ → ℕ → Writes
+write_by (Err r) b n = written_as (number r) b n
+write_by (Ok n) b old = written_as 0 b n
 
 unfoldable pub write_answer : List ℕ → Tables → List ℕ → ℕ → Writes
 write_answer l t b n =
@@ -122,6 +127,11 @@ write_answer l t b n =
 unfoldable pub result_of : Refusal → ℕ
 result_of r = number r + 256 * view_told r
 
+-- 0, or that
+abbrev pub code_of : Result (Unit {0}) Refusal → ℕ
+code_of (Ok x) = 0
+code_of (Err r) = result_of r
+
 -- a change in numbers: the result, the head's numbers, and the cell for the count of order rows
 pub record Told : Type 0 where
   pub result : ℕ
@@ -131,9 +141,9 @@ pub record Told : Type 0 where
 abbrev pub told_as : ℕ → List ℕ → ℕ → Told
 told_as r l n = record { result = r; head = l; count = n }
 
-unfoldable pub change_told : Changed → List ℕ → ℕ → Told
-change_told (changed.No r) l n = told_as (result_of r) l n
-change_told (changed.Done h n) l old = told_as 0 (stored 0 (head_numbers h) l) n
+unfoldable pub change_told : Result Applied Refusal → List ℕ → ℕ → Told
+change_told (Err r) l n = told_as (result_of r) l n
+change_told (Ok a) l old = told_as 0 (stored 0 (head_numbers a.head) l) a.count
 
 pub record Changes : Type 0 where
   pub told : Told
@@ -165,9 +175,9 @@ pub record Views : Type 0 where
 abbrev pub viewed_as : ℕ → ℕ → Views
 viewed_as r v = record { result = r; view = v }
 
-unfoldable pub view_as : Viewed → ℕ → Views
-view_as (viewed.No r) n = viewed_as (result_of r) n
-view_as (viewed.Is v) n = viewed_as 0 (view_number v)
+unfoldable pub view_as : Result View Refusal → ℕ → Views
+view_as (Err r) n = viewed_as (result_of r) n
+view_as (Ok v) n = viewed_as 0 (view_number v)
 
 unfoldable pub view_answer : ℕ → ℕ → List ℕ → Tables → ℕ → Views
 view_answer u r l t n = cond (ltb (length l) head_length) (viewed_as 13 n) (view_as (view_call u r (head_from l) t) n)
@@ -182,9 +192,9 @@ pub record Opens : Type 0 where
 abbrev pub opened_as : ℕ → List ℕ → ℕ → ℕ → Opens
 opened_as r list i o = record { result = r; list = list; inner = i; outer = o }
 
-unfoldable pub open_by : Opened → List ℕ → ℕ → ℕ → Opens
-open_by (opened.No r) list i o = opened_as (result_of r) list i o
-open_by (opened.Chains i o) list m n = opened_as 0 list i o
+unfoldable pub open_by : Result Chains Refusal → List ℕ → ℕ → ℕ → Opens
+open_by (Err r) list i o = opened_as (result_of r) list i o
+open_by (Ok k) list m n = opened_as 0 list k.inner k.outer
 
 unfoldable pub open_answer : ℕ → ℕ → List ℕ → Tables → List ℕ → ℕ → ℕ → Opens
 open_answer u r l t list i o =
@@ -192,9 +202,9 @@ open_answer u r l t list i o =
     cond (ltb (length l) head_length) (opened_as 13 list i o) (open_by c.answer c.list i o)
 
 -- several requests, with a cell for how many order rows all of them used
-unfoldable pub serve_told : Served → List ℕ → ℕ → Told
-serve_told (served.No r) l n = told_as (result_of r) l n
-serve_told (served.Done h n) l old = told_as 0 (stored 0 (head_numbers h) l) n
+unfoldable pub serve_told : Result Served Refusal → List ℕ → ℕ → Told
+serve_told (Err r) l n = told_as (result_of r) l n
+serve_told (Ok s) l old = told_as 0 (stored 0 (head_numbers s.head) l) s.used
 
 pub record Serves : Type 0 where
   pub told : Told

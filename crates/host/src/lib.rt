@@ -1,6 +1,5 @@
 // The C interface (include/fenstubble.h): thin functions over numbers and slices. The result is 0 or the refusal's number, and a refusal leaves every
 // cell as it was, but for a place, which takes what is told with the refusal, and else 0.
-// The five tables are iv, it, ov, ot, rs: inner vertices and tokens, outer vertices and tokens, resources.
 #![tactic(auto)]
 
 pub mod requests;
@@ -8,15 +7,15 @@ pub mod requests;
 ghost use Rattle.std.specs.Prelude.{◌≡◌, ◌≤◌, length};
 ghost use Rattle.rows.specs.Number.{stored};
 ghost use Rattle.sets.specs.Words.{set_in};
-ghost use Rattle.rules.specs.Bytes.{tables};
-ghost use Rattle.host.specs.Answers.{version, set_from, set_numbers, set_length, head_length, head_from, head_numbers, check_answer, section_answer, read_answer, write_answer, answered, loaded_as, written_as};
+ghost use Rattle.rules.specs.Bytes.{tables, tables_of, tables_mut, SameTables};
+ghost use Rattle.host.specs.Answers.{version, set_from, set_numbers, set_length, head_length, head_from, head_read, head_numbers, number_of, load_told, check_answer, section_answer, read_answer, write_answer, answered, loaded_as, written_as};
 
 use rules::{
-    Head, InnerTokens, InnerVertices, Joined, Loaded, Mode, OuterTokens, OuterVertices, Resources,
-    Stored, denial_number, denial_place, refusal_number,
+    BookTables, Denial, Head, InnerTokens, InnerVertices, Joined, Mode, OuterTokens, OuterVertices,
+    Refusal, Resources, Tables, TablesMut,
 };
 use sets::Users;
-use sound::{Checked, check};
+use sound::check;
 
 // Major * 10000 + minor * 100 + patch.
 pub const VERSION: u32 = 40000;
@@ -31,7 +30,7 @@ fn leavers_of(head: &[u16]) -> Users
 {
     let high = head[9] as u64 + 0x1_0000 * head[10] as u64;
     let rest = head[8] as u64 + 0x1_0000 * high;
-    Users::of_word(head[7] as u64 + 0x1_0000 * rest)
+    Users::from(head[7] as u64 + 0x1_0000 * rest)
 }
 
 // A set of leavers into a head's numbers.
@@ -39,7 +38,7 @@ fn put_leavers(head: &mut [u16], leavers: Users)
     requires { head_length ≤ length head.old }
     ensures { head.new ≡ stored 7 (set_numbers set_length (set_in leavers)) head.old }
 {
-    let w = leavers.word();
+    let w = u64::from(leavers);
     let x = w / 0x1_0000;
     let y = x / 0x1_0000;
     let z = y / 0x1_0000;
@@ -74,6 +73,16 @@ pub fn head_of(head: &[u16]) -> Head
     }
 }
 
+// The head that its numbers give, where they are enough.
+fn head_in(head: &[u16]) -> Result<Head, Refusal>
+    ensures { result ≡ head_read head.now }
+{
+    if head.len() < HEAD {
+        return Err(Refusal::ShortTable);
+    }
+    Ok(head_of(head))
+}
+
 // A head into its numbers.
 pub fn put_head(head: &mut [u16], h: Head)
     requires { head_length ≤ length head.old }
@@ -96,25 +105,41 @@ pub extern "C" fn fenstubble_version() -> u32
     VERSION
 }
 
+// 0 where there is no refusal: of calls that tell no view.
+fn number(done: Result<(), Refusal>) -> u16
+    ensures { result ≡ number_of done }
+{
+    match done {
+        Ok(()) => 0,
+        Err(k) => k.number(),
+    }
+}
+
+fn checked(head: &[u16], t: &Tables<'_>) -> Result<(), Refusal>
+    ensures { number_of result ≡ check_answer head.now (tables_of t.now) }
+{
+    check(head_in(head)?, t)
+}
+
 #[unsafe(no_mangle)]
 pub extern "C" fn fenstubble_check(
     head: &[u16],
-    iv: &[u8],
-    it: &[u8],
-    ov: &[u8],
-    ot: &[u8],
-    rs: &[u8],
+    inner_vertices: &[u8],
+    inner_tokens: &[u8],
+    outer_vertices: &[u8],
+    outer_tokens: &[u8],
+    resources: &[u8],
 ) -> u16
-    ensures { result ≡ check_answer head.now (tables iv.now it.now ov.now ot.now rs.now) }
+    ensures { result ≡ check_answer head.now (tables inner_vertices.now inner_tokens.now outer_vertices.now outer_tokens.now resources.now) }
 {
-    if head.len() < HEAD {
-        return 13;
-    }
-    let k = check(head_of(head), iv, it, ov, ot, rs);
-    match k {
-        Checked::No(n) => refusal_number(n),
-        Checked::Sound => 0,
-    }
+    let t = BookTables {
+        inner_vertices,
+        inner_tokens,
+        outer_vertices,
+        outer_tokens,
+        resources,
+    };
+    number(checked(head, &t))
 }
 
 #[unsafe(no_mangle)]
@@ -137,58 +162,74 @@ pub extern "C" fn fenstubble_section(
     0
 }
 
+fn loaded(bytes: &[u8], head: &mut [u16], t: &mut TablesMut<'_>) -> Result<(), Denial>
+    ensures same { SameTables t.old t.new }
+    ensures answer { load_told result head.new (tables_mut t.new) ≡ read_answer bytes.now head.old (tables_mut t.old) }
+{
+    head_in(head)?;
+    let h = book::read(bytes, t)?;
+    put_head(head, h);
+    Ok(())
+}
+
 #[unsafe(no_mangle)]
 pub extern "C" fn fenstubble_read(
     bytes: &[u8],
     head: &mut [u16],
-    iv: &mut [u8],
-    it: &mut [u8],
-    ov: &mut [u8],
-    ot: &mut [u8],
-    rs: &mut [u8],
+    inner_vertices: &mut [u8],
+    inner_tokens: &mut [u8],
+    outer_vertices: &mut [u8],
+    outer_tokens: &mut [u8],
+    resources: &mut [u8],
     place: &mut usize,
 ) -> u16
-    ensures { loaded_as result head.new (tables iv.new it.new ov.new ot.new rs.new) place.new ≡ read_answer bytes.now head.old (tables iv.old it.old ov.old ot.old rs.old) }
+    ensures { loaded_as result head.new (tables inner_vertices.new inner_tokens.new outer_vertices.new outer_tokens.new resources.new) place.new ≡ read_answer bytes.now head.old (tables inner_vertices.old inner_tokens.old outer_vertices.old outer_tokens.old resources.old) }
 {
-    *place = 0;
-    if head.len() < HEAD {
-        return 13;
-    }
-    let a = book::read(bytes, iv, it, ov, ot, rs);
-    match a {
-        Loaded::No(d) => {
-            *place = denial_place(d);
-            denial_number(d)
-        }
-        Loaded::Is(h) => {
-            put_head(head, h);
+    let mut t = BookTables {
+        inner_vertices,
+        inner_tokens,
+        outer_vertices,
+        outer_tokens,
+        resources,
+    };
+    match loaded(bytes, head, &mut t) {
+        Ok(()) => {
+            *place = 0;
             0
         }
+        Err(d) => {
+            *place = d.place();
+            d.number()
+        }
     }
+}
+
+fn written(head: &[u16], t: &Tables<'_>, buffer: &mut [u8], size: &mut usize) -> Result<(), Refusal>
+    ensures { written_as (number_of result) buffer.new size.new ≡ write_answer head.now (tables_of t.now) buffer.old size.old }
+{
+    *size = book::write(head_in(head)?, t, buffer)?;
+    Ok(())
 }
 
 #[unsafe(no_mangle)]
 pub extern "C" fn fenstubble_write(
     head: &[u16],
-    iv: &[u8],
-    it: &[u8],
-    ov: &[u8],
-    ot: &[u8],
-    rs: &[u8],
+    inner_vertices: &[u8],
+    inner_tokens: &[u8],
+    outer_vertices: &[u8],
+    outer_tokens: &[u8],
+    resources: &[u8],
     buffer: &mut [u8],
     size: &mut usize,
 ) -> u16
-    ensures { written_as result buffer.new size.new ≡ write_answer head.now (tables iv.now it.now ov.now ot.now rs.now) buffer.old size.old }
+    ensures { written_as result buffer.new size.new ≡ write_answer head.now (tables inner_vertices.now inner_tokens.now outer_vertices.now outer_tokens.now resources.now) buffer.old size.old }
 {
-    if head.len() < HEAD {
-        return 13;
-    }
-    let a = book::write(head_of(head), iv, it, ov, ot, rs, buffer);
-    match a {
-        Stored::No(n) => refusal_number(n),
-        Stored::Bytes(n) => {
-            *size = n;
-            0
-        }
-    }
+    let t = BookTables {
+        inner_vertices,
+        inner_tokens,
+        outer_vertices,
+        outer_tokens,
+        resources,
+    };
+    number(written(head, &t, buffer, size))
 }

@@ -1,16 +1,15 @@
 -- The sets of a layer as a leave will have it, vertex by vertex.
 -- Assumes nothing.
-use Prim.Native.Nat.{ℕ, zero, suc, ◌+◌, ◌-◌, ◌*◌, ◌≤◌, ◌<◌}
+use Prim.Native.Nat.{ℕ, zero, suc, ◌+◌, ◌-◌, ◌≤◌, ◌<◌}
 use mathlib.Core.Path.{◌≡◌, refl, ap, ◌∙◌}
-use mathlib.Core.List.{List, [], ◌∷◌, ◌++◌, map, append-nil}
+use mathlib.Core.List.{List, [], ◌∷◌, ◌++◌, map}
 use native.Mathlib.Nat.{not-suc-le-zero, le_of_suc-le-suc}
 use native.Mathlib.Omega.{arith}
 use lib.ListN.{length, take, get_or, length-append, length-map, get_or-append}
 use lib.Seq.{length-take-le, get_or-append-add, get_or-take}
-use Rattle.sets.specs.Words.{bytes}
 use Rattle.rules.specs.Bytes.{sets_in, resources_in}
 use Rattle.layer.specs.declared.seen.Seen.{Seen}
-use Rattle.layer.specs.Seen.{as_laid, left_of, seen_sets, SeenIn}
+use Rattle.layer.specs.Seen.{left_of, seen_sets, SeenIn}
 use Rattle.layer.proofs.Read.{length-sets}
 
 get_or-map-in : (f : ℕ → ℕ) (xs : List ℕ) (i d e : ℕ) → i < length xs → get_or (map f xs) i d ≡ f (get_or xs i e)
@@ -52,20 +51,3 @@ module _ (l : Seen) (vs rs fs : List ℕ) where
         ∙ get_or-append-add (sets_in l.vertices vs) (map less (take l.new fs)) i 0
         ∙ get_or-map-in less (take l.new fs) i 0 0 there
         ∙ ap less (get_or-take l.new fs i 0 few)
-
--- the n vertices of a table, and nothing new
-module _ (n : ℕ) (vs fs : List ℕ) {l : Seen} (e : l ≡ as_laid n) where
-  pub laid-seen : n * bytes ≤ length vs → n < 65536 → SeenIn l vs vs fs
-  laid-seen h k =
-      rw e (record {
-        sets = h;
-        rows = omega arith;
-        places = omega arith;
-        user = omega arith;
-        few = omega arith;
-        there = λ j l. absurd (not-suc-le-zero l);
-      })
-
-  pub laid-sets : seen_sets l vs vs fs ≡ sets_in n vs
-  unfolding seen_sets
-  laid-sets = rw e (append-nil (sets_in n vs))

@@ -6,6 +6,7 @@ ghost use Rattle.rules.specs.Lists.{first};
 ghost use Rattle.rules.specs.Bytes.{sets_in};
 ghost use Rattle.layer.specs.Laid.{found_in, is_set};
 ghost use Rattle.layer.specs.Lent.{sets_then};
+ghost use Rattle.layer.specs.Seen.{as_laid};
 
 use crate::laid::Foreseen;
 use crate::table::{resource_in, set_of};
@@ -20,22 +21,30 @@ pub struct Seen {
     pub leaver: User,
 }
 
+// The n vertices of a table, and nothing new: who leaves is never asked.
+pub fn as_laid(n: usize) -> Seen
+    ensures { result ≡ as_laid n }
+{
+    Seen {
+        vertices: n,
+        new: 0,
+        resources: 0,
+        leaver: User(0),
+    }
+}
+
 impl<'a> Foreseen<'a> {
-    // The n vertices of a table, and nothing new: who leaves is never asked.
-    pub fn as_laid(vertices: &'a [u8], n: usize) -> Foreseen<'a>
+    // A layer as it lies in its table.
+    pub fn in_table(vertices: &'a [u8], n: usize) -> Foreseen<'a>
         requires { (n * bytes ≤ length vertices.now) × (n < 65536) }
-        ensures { sets_then result ≡ sets_in n vertices.now }
+        ensures seen_value { result.seen ≡ as_laid n }
+        ensures sets_value { sets_then result ≡ sets_in n vertices.now }
     {
         Foreseen {
             vertices,
             resources: &[],
             firsts: &[],
-            seen: Seen {
-                vertices: n,
-                new: 0,
-                resources: 0,
-                leaver: User(0),
-            },
+            seen: as_laid(n),
         }
     }
 }
@@ -59,7 +68,7 @@ impl Foreseen<'_> {
     pub fn find_set(&self, s: Users) -> Option<usize>
         ensures { result ≡ found_in (self.now.seen.vertices + self.now.seen.new) (first (is_set (set_in s)) (sets_then self.now)) }
     {
-        let n = self.seen.vertices + self.seen.new;
-        (0..n).find(|&v| self.set_of(v) == s)
+        let l = *self;
+        (0..l.seen.vertices + l.seen.new).position(|v| l.set_of(v) == s)
     }
 }

@@ -9,14 +9,13 @@ use lib.Dec.{eqb, leb}
 use lib.ListN.{length, take, drop, get_or, length-append}
 use lib.Seq.{drop-drop, drop_at}
 use borrow.Author.Tests.{eqb-true, lt-leb}
+use Rattle.std.specs.Prelude.{Option, Some, None}
 use Rattle.rules.specs.Book.{Book}
 use Rattle.rules.specs.Lists.{every, first}
 use Rattle.lines.specs.Text.{bytes}
 use Rattle.lines.specs.Request.{longer, pieces, is_number, value, twice, users, above, asking, insert_of, exactly, row_of, asks_for, request_of, kind_of, line_asks, modes, mode_of, first_line}
 use Rattle.lines.specs.Program.{newline, lines_in, closed, span, Told, line_told, no14, answers, leaves, answered, started}
-use Rattle.lines.specs.declared.request.Line.{Line}
-use Rattle.lines.specs.declared.request.Line.TheVariants.{Asks, Malformed}
-use Rattle.lines.specs.declared.request.First.TheVariants as first-line
+use Rattle.lines.specs.declared.request.Asked.{Asked}
 use Rattle.lines.proofs.Passed.{same-lengths}
 
 no-cons : {A : Type 0} {x : A} {xs : List A} → x ∷ xs ≡ [] → ⊥
@@ -219,11 +218,11 @@ start-closed (a ∷ w) [] h e = ap closed (append-nil (a ∷ w)) ∙ closed-unfi
 start-closed (a ∷ w) (c ∷ cs) h e = closed-append (a ∷ w) c cs
 
 -- such a line is malformed, whatever its bytes are
-pub long-asks : (l : List ℕ) → 512 < length l → line_asks l ≡ Malformed
+pub long-asks : (l : List ℕ) → 512 < length l → line_asks l ≡ None
 unfolding line_asks
 long-asks l h = rw (lt-leb (length l) 512 h)
 
-long-mode : (l : List ℕ) → 512 < length l → first_line l ≡ first-line.Malformed
+long-mode : (l : List ℕ) → 512 < length l → first_line l ≡ None
 unfolding first_line mode_of first modes
 long-mode l h = rw (same-lengths l (bytes "full") (λ e. omega arith), same-lengths l (bytes "delta") (λ e. omega arith))
 
@@ -253,15 +252,15 @@ module _ (w z : List ℕ) (h : 512 < length w) (e : lines_in w ≡ []) where
 
 -- ---- the request that a line asks is one of six
 
-abbrev pub Kind : Line → Type 0
-Kind (Asks q) = q.kind < 6
-Kind Malformed = Unit {0}
+abbrev pub Kind : Option Asked → Type 0
+Kind (Some q) = q.kind < 6
+Kind None = Unit {0}
 
 exactly-kind : (n k : ℕ) (ns : List ℕ) → k < 6 → Kind (exactly n k ns)
 unfolding exactly
 exactly-kind n k ns h = go (eqb (length ns) n)
   where
-    go : (z : Bool) → Kind (cond z (asking k (get_or ns 0 0) (get_or ns 1 0)) Malformed)
+    go : (z : Bool) → Kind (cond z (asking k (get_or ns 0 0) (get_or ns 1 0)) None)
     go true = h
     go false = tt
 
@@ -270,7 +269,7 @@ unfolding row_of insert_of
 row-kind zero ns = exactly-kind 0 0 ns (omega arith)
 row-kind (suc zero) ns = go (twice ns)
   where
-    go : (z : Bool) → Kind (cond z Malformed (asking 1 (users ns) (above ns)))
+    go : (z : Bool) → Kind (cond z None (asking 1 (users ns) (above ns)))
     go true = tt
     go false = omega arith
 row-kind (suc (suc zero)) ns = exactly-kind 2 2 ns (omega arith)
@@ -283,7 +282,7 @@ pub asks-kind : (l : List ℕ) → Kind (line_asks l)
 unfolding line_asks request_of asks_for
 asks-kind l = short (leb (length l) 512)
   where
-    numbers : (z : Bool) (k : ℕ) (ps : List (List ℕ)) → Kind (cond z (row_of k (map value ps)) Malformed)
+    numbers : (z : Bool) (k : ℕ) (ps : List (List ℕ)) → Kind (cond z (row_of k (map value ps)) None)
     numbers true k ps = row-kind k (map value ps)
     numbers false k ps = tt
 
@@ -291,6 +290,6 @@ asks-kind l = short (leb (length l) 512)
     words [] = tt
     words (w ∷ ps) = numbers (every is_number ps) (kind_of w) ps
 
-    short : (z : Bool) → Kind (cond z (request_of (pieces l)) Malformed)
+    short : (z : Bool) → Kind (cond z (request_of (pieces l)) None)
     short true = words (pieces l)
     short false = tt

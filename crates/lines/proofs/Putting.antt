@@ -1,12 +1,13 @@
 -- Texts put one behind the other, and the decimal digits of a number. Assumes nothing.
-use Prim.Native.Nat.{ℕ, zero, suc, ◌+◌, ◌/◌, ◌%◌, ◌^◌, ◌≤◌, ◌<◌}
+use Prim.Native.Nat.{ℕ, zero, suc, ◌+◌, ◌-◌, ◌/◌, ◌%◌, ◌^◌, ◌≤◌, ◌<◌}
 use mathlib.Core.Path.{◌≡◌, refl, sym, ap, ◌∙◌}
 use mathlib.Core.List.{List, [], ◌∷◌, ◌++◌, append_assoc}
 use native.Mathlib.Nat.{pow-suc}
 use native.Mathlib.Numerals.{add-one}
 use native.Mathlib.Omega.{arith}
 use lib.ListN.{length, set, length-append, length-set}
-use lib.Seq.{set_split}
+use lib.Seq.{drop-drop, set_split}
+use borrow.Rule.Slice.PartMut.{put_mid}
 use Rattle.rows.specs.Number.{stored}
 use Rattle.rows.proofs.Laws.{stored-none, stored-behind, length-stored}
 use Rattle.lines.specs.Answer.{digits_in, digits, numeral, Puts}
@@ -20,6 +21,13 @@ pub put_byte : (b at : ℕ) (out : List ℕ) → at < length out → Puts (b ∷
 unfolding stored
 put_byte b at out h = record { ends = refl; holds = rw (set_split out at b h, add-one at) }
 
+-- a text copied into its part of what was lent
+pub put_part : (text : List ℕ) (at : ℕ) (out ys : List ℕ) → ys ≡ text → Puts text at out (at + length text) (put_mid at (at + length text - at) out ys)
+unfolding stored
+put_part text at out ys e =
+    let n : at + length text - at ≡ length text = omega arith in
+    record { ends = refl; holds = rw (e, n, drop-drop (length text) at out) }
+
 -- ---- one behind the other
 
 pub put_then : {a b : List ℕ} {at m r : ℕ} {out mid now : List ℕ} → at ≤ length out → Puts a at out m mid → Puts b m mid r now → Puts (a ++ b) at out r now
@@ -32,18 +40,10 @@ put_then {a} {b} {at} {m} {r} {out} h p q =
 pub put-length : {a : List ℕ} {at r : ℕ} {out now : List ℕ} → at + length a ≤ length out → Puts a at out r now → length now ≡ length out
 put-length {a} {at} {r} {out} h p = ap length p.holds ∙ length-stored at a out h
 
--- two bytes and three
-module _ (x y at : ℕ) (out : List ℕ) where
-  pub put_two : at + 2 ≤ length out → Puts (x ∷ y ∷ []) at out (at + 2) (set (set out at x) (at + 1) y)
-  put_two h =
-      let e : at + 1 + 1 ≡ at + 2 = omega arith in
-      rw (← e) (put_then {a = x ∷ []} (omega arith) (put_byte x at out (omega arith)) (put_byte y (at + 1) (set out at x) (simp length-set (omega arith))))
-
-  pub put_three : (z : ℕ) → at + 3 ≤ length out → Puts (x ∷ y ∷ z ∷ []) at out (at + 3) (set (set (set out at x) (at + 1) y) (at + 2) z)
-  put_three z h =
-      let e : at + 2 + 1 ≡ at + 3 = omega arith in
-      rw (← e)
-      (put_then {a = x ∷ y ∷ []} (omega arith) (put_two (omega arith)) (put_byte z (at + 2) (set (set out at x) (at + 1) y) (simp length-set (omega arith))))
+pub put_two : (x y at : ℕ) (out : List ℕ) → at + 2 ≤ length out → Puts (x ∷ y ∷ []) at out (at + 2) (set (set out at x) (at + 1) y)
+put_two x y at out h =
+    let e : at + 1 + 1 ≡ at + 2 = omega arith in
+    rw (← e) (put_then {a = x ∷ []} (omega arith) (put_byte x at out (omega arith)) (put_byte y (at + 1) (set out at x) (simp length-set (omega arith))))
 
 -- ---- digits
 

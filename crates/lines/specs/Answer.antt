@@ -1,10 +1,8 @@
 -- The text of an answer. RULES 10.8. 10 is the newline, 32 the space, 48 the digit 0.
 -- Assumes nothing.
-use Rattle.std.specs.Prelude.{ℕ, zero, suc, ◌+◌, ◌*◌, ◌-◌, ◌/◌, ◌%◌, Bool, cond, ◌||◌, List, [], ◌∷◌, ◌++◌, ◌≡◌, eqb, leb, length}
+use Rattle.std.specs.Prelude.{ℕ, zero, suc, ◌+◌, ◌*◌, ◌-◌, ◌/◌, ◌%◌, Bool, cond, ◌||◌, Option, Some, None, List, [], ◌∷◌, ◌++◌, ◌≡◌, eqb, leb, length}
 use Rattle.rows.specs.Number.{stored}
 use Rattle.lines.specs.Text.{bytes}
-use Rattle.lines.specs.declared.answer.Put.{Put}
-use Rattle.lines.specs.declared.answer.Put.TheVariants.{To, Full}
 
 -- the decimal digits of n, none of 0; f bounds how many there are
 unfoldable pub digits_in : ℕ → ℕ → List ℕ
@@ -50,10 +48,10 @@ pub record Puts (text : List ℕ) (at : ℕ) (out : List ℕ) (end : ℕ) (now :
 
 -- what the call answers and leaves
 pub record Written : Type 0 where
-  pub answer : Put
+  pub answer : Option ℕ
   pub out : List ℕ
 
-abbrev pub writing : Put → List ℕ → Written
+abbrev pub writing : Option ℕ → List ℕ → Written
 writing a out = record { answer = a; out = out }
 
 -- room is asked for 24 bytes and 18 for each row, which no answer exceeds; with less, nothing is written
@@ -63,4 +61,4 @@ room_for rows at out = leb (24 + 18 * (length rows / 3)) (length out - at)
 unfoldable pub put_answer : ℕ → ℕ → List ℕ → List ℕ → ℕ → Written
 put_answer number view rows out at =
     let text = answer_text number view rows in
-    cond (room_for rows at out) (writing (To (at + length text)) (stored at text out)) (writing Full out)
+    cond (room_for rows at out) (writing (Some (at + length text)) (stored at text out)) (writing None out)

@@ -1,17 +1,15 @@
 -- Worked examples, run from the definitions: lines on both sides of each clause of RULES 10.3 and 10.4, and the answers of its sample.
 -- A row: what the definitions give, and what it should be.
 -- Assumes nothing.
-use Rattle.std.specs.Prelude.{ℕ, ◌+◌, ◌≡◌, refl, List, [], ◌∷◌, ◌++◌, map}
+use Rattle.std.specs.Prelude.{ℕ, ◌+◌, ◌≡◌, refl, Option, Some, None, List, [], ◌∷◌, ◌++◌, map}
 use Prim.Native.String.{String}
 use Rattle.rows.specs.Number.{joined}
 use Rattle.rules.specs.Lists.{every, some, first, tabulate_from, tabulate}
 use Rattle.lines.specs.Text.{bytes}
 use Rattle.lines.specs.Request.{same, digit, shaped, is_number, value_from, value, longer, pieces, words, kind_of, twice, users, above, insert_of, exactly, row_of, asks_for, request_of, line_asks, modes, mode_of, first_line}
 use Rattle.lines.specs.Answer.{digits_in, digits, numeral, of_open, row_text, rows_text, ok_text, no_text, answer_text}
-use Rattle.lines.specs.declared.request.Line.{Line}
-use Rattle.lines.specs.declared.request.Line.TheVariants as line
-use Rattle.lines.specs.declared.request.First.{First}
-use Rattle.lines.specs.declared.request.First.TheVariants as first-line
+use Rattle.rules.specs.declared.Mode.{Mode}
+use Rattle.lines.specs.declared.request.Asked.{Asked}
 
 abbrev pub given : List ℕ × List ℕ → List ℕ
 given row = row.0
@@ -24,16 +22,16 @@ wanted row = row.1
 unfoldable pub malformed : List ℕ
 malformed = []
 
-unfoldable pub row_in : Line → List ℕ
-row_in (line.Asks r) = r.kind ∷ r.a ∷ r.b ∷ []
-row_in line.Malformed = malformed
+unfoldable pub row_in : Option Asked → List ℕ
+row_in (Some r) = r.kind ∷ r.a ∷ r.b ∷ []
+row_in None = malformed
 
 unfoldable pub asks : String → List ℕ
 asks s = row_in (line_asks (bytes s))
 
-unfoldable pub mode_in : First → List ℕ
-mode_in (first-line.Of m) = m.0 ∷ []
-mode_in first-line.Malformed = malformed
+unfoldable pub mode_in : Option Mode → List ℕ
+mode_in (Some m) = m.0 ∷ []
+mode_in None = malformed
 
 unfoldable pub starts : String → List ℕ
 starts s = mode_in (first_line (bytes s))

@@ -1,7 +1,7 @@
 -- The request program as one definition: from the bytes of the whole input to the bytes of the whole output. RULES 10.
 -- Assumes nothing.
-use Rattle.std.specs.Prelude.{ℕ, ◌+◌, Bool, cond, not, List, [], ◌∷◌, ◌++◌, eqb, length}
-use Rattle.std.proofs.Math.Option.{Option, some, none}
+use Rattle.std.specs.Prelude.{ℕ, ◌+◌, Bool, cond, not, Option, Some, None, List, [], ◌∷◌, ◌++◌, eqb, length}
+use Rattle.std.proofs.Math.Option as math
 use Rattle.rules.specs.Book.{Book, empty_book}
 use Rattle.rules.specs.Holders.{view}
 use Rattle.rules.specs.Requests.{Done}
@@ -11,10 +11,8 @@ use Rattle.rules.specs.declared.Refusal.{Refusal}
 use Rattle.rules.specs.declared.Refusal.TheVariants.{NoSuch, Closed}
 use Rattle.lines.specs.Request.{longer, line_asks, first_line}
 use Rattle.lines.specs.Answer.{answer_text}
-use Rattle.lines.specs.declared.request.Line.{Line}
-use Rattle.lines.specs.declared.request.Line.TheVariants as line
-use Rattle.lines.specs.declared.request.First.{First}
-use Rattle.lines.specs.declared.request.First.TheVariants as first-line
+use Rattle.rules.specs.declared.Mode.{Mode}
+use Rattle.lines.specs.declared.request.Asked.{Asked as Row}
 
 -- ---- lines: each ends at a newline, the byte 10
 
@@ -51,14 +49,14 @@ unfoldable pub refused : Refusal → Book → Told
 refused r b = telling (answer_text (number r) (view_told r) []) b
 
 -- "`ok N` on a line and N rows": the orders
-unfoldable pub change_told : Option Refusal → Done → Book → Told
-change_told (some r) d b = refused r b
-change_told none d b = telling (answer_text 0 0 (order_rows d.orders)) d.book
+unfoldable pub change_told : math.Option Refusal → Done → Book → Told
+change_told (math.some r) d b = refused r b
+change_told math.none d b = telling (answer_text 0 0 (order_rows d.orders)) d.book
 
 -- the rows of both chains
-unfoldable pub open_told : Option Refusal → ℕ → ℕ → Book → Told
-open_told (some k) u r b = refused k b
-open_told none u r b = telling (answer_text 0 0 (chain_rows b u r)) b
+unfoldable pub open_told : math.Option Refusal → ℕ → ℕ → Book → Told
+open_told (math.some k) u r b = refused k b
+open_told math.none u r b = telling (answer_text 0 0 (chain_rows b u r)) b
 
 -- RULES 10.7: each request as its own call, "with as many order rows lent as are needed"
 unfoldable pub answer_to : Asked → Book → Told
@@ -72,9 +70,9 @@ answer_to nothing b = refused NoSuch b
 unfoldable pub no14 : List ℕ
 no14 = answer_text 14 0 []
 
-unfoldable pub line_told : Line → Book → Told
-line_told (line.Asks q) b = answer_to (asked q.kind q.a q.b) b
-line_told line.Malformed b = telling no14 b
+unfoldable pub line_told : Option Row → Book → Told
+line_told (Some q) b = answer_to (asked q.kind q.a q.b) b
+line_told None b = telling no14 b
 
 -- ---- the program
 
@@ -91,9 +89,9 @@ leaves [] b = b
 leaves (l ∷ ls) b = leaves ls (line_told (line_asks l) b).book
 
 -- RULES 10.3: the mode, "and nothing is printed"; else "`no 14` is printed, and the program ends"
-unfoldable pub started : First → List (List ℕ) → List ℕ
-started (first-line.Of m) ls = answers ls (empty_book m.0)
-started first-line.Malformed ls = no14
+unfoldable pub started : Option Mode → List (List ℕ) → List ℕ
+started (Some m) ls = answers ls (empty_book m.0)
+started None ls = no14
 
 -- so it is for "no input at all"
 unfoldable pub answered : List (List ℕ) → List ℕ

@@ -1,11 +1,10 @@
 -- What the parts of the line reader answer. RULES 10.4, 14.3.
 -- Assumes nothing.
-use Rattle.std.specs.Prelude.{ℕ, ◌≤◌, ◌≡◌, Bool, cond, List, [], ◌∷◌, map, eqb, length, take, get_or}
-use Rattle.std.proofs.Math.Option.{Option, some, none}
+use Rattle.std.specs.Prelude.{ℕ, ◌≤◌, ◌≡◌, Bool, cond, Option, Some, None, List, [], ◌∷◌, map, eqb, length, take, get_or}
 use Rattle.rules.specs.Lists.{every}
+use Rattle.rules.specs.Kinds.{request_number}
+use Rattle.rules.specs.declared.RequestKind.{RequestKind}
 use Rattle.lines.specs.Request.{is_number, value, pieces}
-use Rattle.lines.specs.declared.request.Numbers.{Numbers}
-use Rattle.lines.specs.declared.request.Numbers.TheVariants as numbers
 
 abbrev pub space : ℕ → Bool
 space c = eqb c 32
@@ -25,13 +24,18 @@ pub record Rest (rest : List ℕ) : Type 0 where
 
 -- the numbers of some pieces, where each is one
 unfoldable pub numbers_of : List (List ℕ) → Option (List ℕ)
-numbers_of ps = cond (every is_number ps) (some (map value ps)) none
+numbers_of ps = cond (every is_number ps) (Some (map value ps)) None
 
 -- those that the reader left in the array
-abbrev pub got : Numbers → List ℕ → Option (List ℕ)
-got (numbers.Of n) array = some (take n array)
-got numbers.Bad array = none
+abbrev pub got : Option ℕ → List ℕ → Option (List ℕ)
+got (Some n) array = Some (take n array)
+got None array = None
 
-abbrev pub counted : Numbers → ℕ
-counted (numbers.Of n) = n
-counted numbers.Bad = 0
+abbrev pub counted : Option ℕ → ℕ
+counted (Some n) = n
+counted None = 0
+
+-- the number of a word's kind; 6 for none
+abbrev pub kind_told : Option RequestKind → ℕ
+kind_told (Some k) = request_number k
+kind_told None = 6

@@ -1,17 +1,13 @@
 -- What a line of the request program asks: the grammar of RULES 10.4, and its first line, 10.3. A line is its bytes without the newline: 32 is the space, 48
 -- to 57 are the digits.
 -- Assumes nothing.
-use Rattle.std.specs.Prelude.{ℕ, zero, suc, ◌+◌, ◌*◌, ◌-◌, Bool, true, false, cond, ◌&&◌, ◌||◌, not, List, [], ◌∷◌, map, eqb, leb, ltb, length, get_or}
+use Rattle.std.specs.Prelude.{ℕ, zero, suc, ◌+◌, ◌*◌, ◌-◌, Bool, true, false, cond, ◌&&◌, ◌||◌, not, Option, Some, None, List, [], ◌∷◌, map, eqb, leb, ltb, length, get_or}
 use Rattle.sets.specs.Sets.{single, union}
 use Rattle.sets.specs.Words.{people}
 use Rattle.rules.specs.Lists.{every, some, first}
 use Rattle.lines.specs.Text.{bytes}
-use Rattle.lines.specs.declared.request.Line.{Line}
-use Rattle.lines.specs.declared.request.Line.TheVariants as line
-use Rattle.lines.specs.declared.request.First.{First}
-use Rattle.lines.specs.declared.request.First.TheVariants as first-line
-use Rattle.lines.specs.declared.request.Decimal.{Decimal}
-use Rattle.lines.specs.declared.request.Decimal.TheVariants as decimal
+use Rattle.rules.specs.declared.Mode.{Mode}
+use Rattle.lines.specs.declared.request.Asked.{Asked}
 
 -- the same bytes
 unfoldable pub same : List ℕ → List ℕ → Bool
@@ -41,8 +37,8 @@ value_from n (c ∷ cs) = value_from (n * 10 + (c - 48)) cs
 unfoldable pub value : List ℕ → ℕ
 value p = value_from 0 p
 
-unfoldable pub number_in : List ℕ → Decimal
-number_in p = cond (is_number p) (decimal.Is (value p)) decimal.Bad
+unfoldable pub number_in : List ℕ → Option ℕ
+number_in p = cond (is_number p) (Some (value p)) None
 
 -- ---- pieces
 
@@ -78,44 +74,44 @@ users (n ∷ ns) = let s = users ns in cond (ltb n people) (union (single n) s) 
 unfoldable pub above : List ℕ → ℕ
 above ns = cond (some (leb people) ns) 1 0
 
-abbrev pub asking : ℕ → ℕ → ℕ → Line
-asking k a b = line.Asks (record { kind = k; a = a; b = b })
+abbrev pub asking : ℕ → ℕ → ℕ → Option Asked
+asking k a b = Some (record { kind = k; a = a; b = b })
 
-unfoldable pub insert_of : List ℕ → Line
-insert_of ns = cond (twice ns) line.Malformed (asking 1 (users ns) (above ns))
+unfoldable pub insert_of : List ℕ → Option Asked
+insert_of ns = cond (twice ns) None (asking 1 (users ns) (above ns))
 
 -- exactly n numbers, two at most; what a request has no number for is 0
-unfoldable pub exactly : ℕ → ℕ → List ℕ → Line
-exactly n k ns = cond (eqb (length ns) n) (asking k (get_or ns 0 0) (get_or ns 1 0)) line.Malformed
+unfoldable pub exactly : ℕ → ℕ → List ℕ → Option Asked
+exactly n k ns = cond (eqb (length ns) n) (asking k (get_or ns 0 0) (get_or ns 1 0)) None
 
 -- the request of a word and its numbers, as the row of numbers that `asked` of rules/specs/Calls reads
-unfoldable pub row_of : ℕ → List ℕ → Line
+unfoldable pub row_of : ℕ → List ℕ → Option Asked
 row_of zero ns = exactly 0 0 ns
 row_of (suc zero) ns = insert_of ns
 row_of (suc (suc zero)) ns = exactly 2 2 ns
 row_of (suc (suc (suc zero))) ns = exactly 2 3 ns
 row_of (suc (suc (suc (suc zero)))) ns = exactly 2 4 ns
 row_of (suc (suc (suc (suc (suc zero))))) ns = exactly 1 5 ns
-row_of (suc (suc (suc (suc (suc (suc k)))))) ns = line.Malformed
+row_of (suc (suc (suc (suc (suc (suc k)))))) ns = None
 
-unfoldable pub asks_for : ℕ → List (List ℕ) → Line
-asks_for k ps = cond (every is_number ps) (row_of k (map value ps)) line.Malformed
+unfoldable pub asks_for : ℕ → List (List ℕ) → Option Asked
+asks_for k ps = cond (every is_number ps) (row_of k (map value ps)) None
 
-unfoldable pub request_of : List (List ℕ) → Line
-request_of [] = line.Malformed
+unfoldable pub request_of : List (List ℕ) → Option Asked
+request_of [] = None
 request_of (w ∷ ps) = asks_for (kind_of w) ps
 
 -- "it has at most 512 bytes"
-unfoldable pub line_asks : List ℕ → Line
-line_asks bs = cond (leb (length bs) 512) (request_of (pieces bs)) line.Malformed
+unfoldable pub line_asks : List ℕ → Option Asked
+line_asks bs = cond (leb (length bs) 512) (request_of (pieces bs)) None
 
 -- ---- RULES 10.3 "the first line is `full` or `delta`": mode 0 full, 1 delta
 
 unfoldable pub modes : List (List ℕ)
 modes = bytes "full" ∷ bytes "delta" ∷ []
 
-unfoldable pub mode_of : ℕ → First
-mode_of k = cond (ltb k 2) (first-line.Of (record { 0 = k })) first-line.Malformed
+unfoldable pub mode_of : ℕ → Option Mode
+mode_of k = cond (ltb k 2) (Some (record { 0 = k })) None
 
-unfoldable pub first_line : List ℕ → First
+unfoldable pub first_line : List ℕ → Option Mode
 first_line bs = mode_of (first (same bs) modes)

@@ -1,13 +1,17 @@
 // A line of the request program, without its newline.
-ghost use Rattle.std.specs.Prelude.{◌≡◌, ◌+◌, ◌≤◌, eqb, length, drop, get_or};
-ghost use Rattle.rules.specs.Lists.{some, first};
-ghost use Rattle.lines.specs.Request.{same, shaped, number_in, kind_of, twice, users, above, insert_of, exactly, row_of, asks_for, line_asks, first_line};
-ghost use Rattle.lines.specs.Reading.{space, behind, Rest, numbers_of, got, counted};
+ghost use Rattle.std.specs.Prelude.{◌≡◌, ◌≤◌, length};
+ghost use Rattle.lines.specs.Request.{shaped, number_in, kind_of, twice, users, above, insert_of, exactly, row_of, line_asks, first_line};
+ghost use Rattle.rules.specs.Lists.{first};
+ghost use Rattle.rules.specs.Kinds.{request_number};
+ghost use Rattle.lines.specs.Reading.{space, Rest, behind, numbers_of, got, counted, kind_told};
 
-use rules::Mode;
+use rules::{Mode, RequestKind};
 use sets::{User, Users};
 
-// A request as the row of three numbers that a call which serves several requests takes.
+// A set can name the users below it.
+const LIMIT: u64 = Users::LIMIT as u64;
+
+// A request as the row of three numbers that a call which serves several requests takes: its kind is a number, as in C.
 #[derive(Clone, Copy)]
 pub struct Asked {
     pub kind: u64,
@@ -15,153 +19,45 @@ pub struct Asked {
     pub b: u64,
 }
 
-#[derive(Clone, Copy)]
-pub enum Line {
-    Asks(Asked),
-    Malformed,
-}
-
-// The first line of the input.
-#[derive(Clone, Copy)]
-pub enum First {
-    Of(Mode),
-    Malformed,
-}
-
-#[derive(Clone, Copy)]
-pub enum Decimal {
-    Is(u64),
-    Bad,
-}
-
-// How many numbers were read.
-#[derive(Clone, Copy)]
-pub enum Numbers {
-    Of(usize),
-    Bad,
-}
-
-// Whether two stretches hold the same bytes.
-fn same(a: &[u8], b: &[u8]) -> bool
-    ensures { result ≡ same a.now b.now }
-{
-    if a.len() != b.len() {
-        return false;
-    }
-    let mut i: usize = 0;
-    while i < a.len() {
-        if a[i] != b[i] {
-            return false;
-        }
-        i += 1;
-    }
-    true
-}
-
-// Where the piece that starts at `at` ends: at a space or at the line's end.
-fn piece_end(line: &[u8], at: usize) -> usize
-    requires { at ≤ length line.now }
-    ensures { result ≡ at + first space (drop at line.now) }
-{
-    let mut i = at;
-    while i < line.len() {
-        if line[i] == b' ' {
-            return i;
-        }
-        i += 1;
-    }
-    i
-}
-
 // One to five bytes that start with 0 only if there is no other: a NUMBER of RULES 10.4, if they are digits.
+#[tactic(auto, using(std::proofs::lemmas::Bool::Decides::nat_tests), unfolding(crate::specs::Request::shaped))]
 fn shaped(piece: &[u8]) -> bool
     ensures { result ≡ shaped piece.now }
 {
-    if piece.len() == 0 {
-        return false;
+    match piece {
+        [_] => true,
+        [] | [b'0', ..] => false,
+        _ => piece.len() <= 5,
     }
-    if piece.len() > 5 {
-        return false;
-    }
-    if piece.len() == 1 {
-        return true;
-    }
-    if piece[0] == b'0' {
-        return false;
-    }
-    true
 }
 
 // The number that a piece is.
-fn number_in(piece: &[u8]) -> Decimal
+fn number_in(piece: &[u8]) -> Option<u64>
     ensures { result ≡ number_in piece.now }
 {
     if !shaped(piece) {
-        return Decimal::Bad;
+        return None;
     }
-    let mut n: u64 = 0;
-    let mut i: usize = 0;
-    while i < piece.len() {
-        let c = piece[i];
-        if c < b'0' {
-            return Decimal::Bad;
+    let mut n = 0;
+    for c in piece {
+        if !c.is_ascii_digit() {
+            return None;
         }
-        if c > b'9' {
-            return Decimal::Bad;
-        }
-        n = n * 10 + (c - b'0') as u64;
-        i += 1;
+        n = n * 10 + u64::from(c - b'0');
     }
-    Decimal::Is(n)
-}
-
-// The numbers of a line's rest, each behind a space.
-fn read_numbers(rest: &[u8], numbers: &mut [u64]) -> Numbers
-    requires rest { Rest rest.now }
-    requires in_bounds { 256 ≤ length numbers.old }
-    ensures numbers_after { got result numbers.new ≡ numbers_of (behind rest.now) }
-    ensures result_bound { counted result ≤ 256 }
-{
-    let mut n: usize = 0;
-    let mut at: usize = 0;
-    while at < rest.len() {
-        let from = at + 1;
-        let end = piece_end(rest, from);
-        let Decimal::Is(x) = number_in(&rest[from..end]) else {
-            return Numbers::Bad;
-        };
-        numbers[n] = x;
-        n += 1;
-        at = end;
-    }
-    Numbers::Of(n)
-}
-
-// Whether n is one of the numbers.
-fn among(numbers: &[u64], n: u64) -> bool
-    ensures { result ≡ some (eqb n) numbers.now }
-{
-    let mut i: usize = 0;
-    while i < numbers.len() {
-        if numbers[i] == n {
-            return true;
-        }
-        i += 1;
-    }
-    false
+    Some(n)
 }
 
 // Whether a number comes twice.
 fn repeats(numbers: &[u64]) -> bool
     ensures { result ≡ twice numbers.now }
 {
-    let mut i: usize = 0;
-    while i < numbers.len() {
-        let n = numbers[i];
-        i += 1;
-        if among(&numbers[i..], n) {
+    let mut rest = numbers;
+    while let [n, behind @ ..] = rest {
+        if behind.contains(n) {
             return true;
         }
+        rest = behind;
     }
     false
 }
@@ -170,137 +66,137 @@ fn repeats(numbers: &[u64]) -> bool
 fn users_of(numbers: &[u64]) -> u64
     ensures { result ≡ users numbers.now }
 {
-    let mut s = Users::empty();
-    let mut i: usize = 0;
-    while i < numbers.len() {
-        let n = numbers[i];
-        if n < Users::LIMIT as u64 {
-            s = s.with(User(n as u16));
+    let mut users = Users::empty();
+    for n in numbers {
+        if *n < LIMIT {
+            users = users.with(User(*n as u16));
         }
-        i += 1;
     }
-    s.word()
+    u64::from(users)
 }
 
 // 1 if a number is above 63.
 fn above_of(numbers: &[u64]) -> u64
     ensures { result ≡ above numbers.now }
 {
-    let mut i: usize = 0;
-    while i < numbers.len() {
-        if numbers[i] >= Users::LIMIT as u64 {
-            return 1;
-        }
-        i += 1;
-    }
-    0
+    u64::from(numbers.iter().any(|n| *n >= LIMIT))
 }
 
-// Which request a word is: 0 join, 1 insert, 2 grant, 3 revoke, 4 open, 5 leave; 6 for none.
-fn kind_of(word: &[u8]) -> u64
-    ensures { result ≡ kind_of word.now }
+// Which request a word is.
+#[tactic(auto, using(crate::proofs::Passed::same_is), unfolding(crate::specs::Request::kind_of, crate::specs::Request::words, rules::specs::Lists::first))]
+fn kind_of(word: &[u8]) -> Option<RequestKind>
+    ensures { kind_told result ≡ kind_of word.now }
 {
-    if same(word, b"join") {
-        return 0;
+    if word == b"join".as_slice() {
+        Some(RequestKind::Join)
+    } else if word == b"insert".as_slice() {
+        Some(RequestKind::Insert)
+    } else if word == b"grant".as_slice() {
+        Some(RequestKind::Grant)
+    } else if word == b"revoke".as_slice() {
+        Some(RequestKind::Revoke)
+    } else if word == b"open".as_slice() {
+        Some(RequestKind::Open)
+    } else if word == b"leave".as_slice() {
+        Some(RequestKind::Leave)
+    } else {
+        None
     }
-    if same(word, b"insert") {
-        return 1;
-    }
-    if same(word, b"grant") {
-        return 2;
-    }
-    if same(word, b"revoke") {
-        return 3;
-    }
-    if same(word, b"open") {
-        return 4;
-    }
-    if same(word, b"leave") {
-        return 5;
-    }
-    6
 }
 
 // An insert of the users that the numbers name.
-fn insert_of(numbers: &[u64]) -> Line
+fn insert_of(numbers: &[u64]) -> Option<Asked>
     ensures { result ≡ insert_of numbers.now }
 {
     if repeats(numbers) {
-        return Line::Malformed;
+        return None;
     }
-    let a = users_of(numbers);
-    let b = above_of(numbers);
-    Line::Asks(Asked { kind: 1, a, b })
+    Some(Asked {
+        kind: RequestKind::Insert.number(),
+        a: users_of(numbers),
+        b: above_of(numbers),
+    })
 }
 
-// The number at i, 0 where there is none.
-fn number_at(numbers: &[u64], i: usize) -> u64
-    ensures { result ≡ get_or numbers.now i 0 }
-{
-    if i < numbers.len() {
-        return numbers[i];
-    }
-    0
-}
-
-// A request of exactly n numbers, two at most.
-fn exactly(n: usize, kind: u64, numbers: &[u64]) -> Line
-    ensures { result ≡ exactly n kind numbers.now }
+// A request of exactly n numbers, two at most; what it has no number for is 0.
+fn exactly(n: usize, kind: RequestKind, numbers: &[u64]) -> Option<Asked>
+    ensures { result ≡ exactly n (request_number kind) numbers.now }
 {
     if numbers.len() != n {
-        return Line::Malformed;
+        return None;
     }
-    let a = number_at(numbers, 0);
-    let b = number_at(numbers, 1);
-    Line::Asks(Asked { kind, a, b })
+    let (a, b) = match numbers {
+        [] => (0, 0),
+        [a] => (*a, 0),
+        [a, b, ..] => (*a, *b),
+    };
+    Some(Asked {
+        kind: kind.number(),
+        a,
+        b,
+    })
 }
 
 // The request of a word and its numbers.
-fn row_of(kind: u64, numbers: &[u64]) -> Line
-    ensures { result ≡ row_of kind numbers.now }
+fn row_of(kind: RequestKind, numbers: &[u64]) -> Option<Asked>
+    ensures { result ≡ row_of (request_number kind) numbers.now }
 {
     match kind {
-        0 => exactly(0, kind, numbers),
-        1 => insert_of(numbers),
-        2 | 3 | 4 => exactly(2, kind, numbers),
-        5 => exactly(1, kind, numbers),
-        _ => Line::Malformed,
+        RequestKind::Join => exactly(0, kind, numbers),
+        RequestKind::Insert => insert_of(numbers),
+        RequestKind::Grant | RequestKind::Revoke | RequestKind::Open => exactly(2, kind, numbers),
+        RequestKind::Leave => exactly(1, kind, numbers),
     }
 }
 
-// The request of a word and "the part of the line behind its first word" (RULES 14.3).
-fn request(kind: u64, rest: &[u8]) -> Line
-    requires { Rest rest.now }
-    ensures { result ≡ asks_for kind (behind rest.now) }
+// How many numbers a line's rest has, put into the array, if each piece is one. The rest is the part behind the word and starts at a space or is empty, as RULES
+// 14.3 asks: so its first piece is empty, and no number.
+fn read_numbers(rest: &[u8], numbers: &mut [u64]) -> Option<usize>
+    requires rest { Rest rest.now }
+    requires in_bounds { 256 ≤ length numbers.old }
+    ensures numbers_after { got result numbers.new ≡ numbers_of (behind rest.now) }
+    ensures result_bound { counted result ≤ 256 }
 {
-    let mut numbers = [0u64; 256];
-    let Numbers::Of(n) = read_numbers(rest, &mut numbers) else {
-        return Line::Malformed;
-    };
-    row_of(kind, &numbers[..n])
+    let mut count = 0;
+    for piece in rest.split(|c| *c == b' ').skip(1) {
+        numbers[count] = number_in(piece)?;
+        count += 1;
+    }
+    Some(count)
 }
 
-// What a line asks; it is given without its newline.
-pub fn read_line(line: &[u8]) -> Line
+// Where a line's first word ends: at a space or at the line's end.
+fn word_end(line: &[u8]) -> usize
+    ensures value { result ≡ first space line.now }
+    ensures upper_bound { result ≤ length line.now }
+{
+    line.iter().position(|c| *c == b' ').unwrap_or(line.len())
+}
+
+// What a line asks, if it is a request; it is given without its newline. "It has at most 512 bytes", so at most 256 numbers.
+pub fn read_line(line: &[u8]) -> Option<Asked>
     ensures { result ≡ line_asks line.now }
 {
     if line.len() > 512 {
-        return Line::Malformed;
+        return None;
     }
-    let k = piece_end(line, 0);
-    let kind = kind_of(&line[..k]);
-    request(kind, &line[k..])
+    let k = word_end(line);
+    let kind = kind_of(&line[..k])?;
+    let mut numbers = [0u64; 256];
+    let count = read_numbers(&line[k..], &mut numbers)?;
+    row_of(kind, &numbers[..count])
 }
 
-// The mode that the first line names.
-pub fn read_mode(line: &[u8]) -> First
+// The mode that the first line names, if it names one.
+#[tactic(auto, using(crate::proofs::Passed::same_is), unfolding(crate::specs::Request::first_line, crate::specs::Request::mode_of, crate::specs::Request::modes, rules::specs::Lists::first))]
+pub fn read_mode(line: &[u8]) -> Option<Mode>
     ensures { result ≡ first_line line.now }
 {
-    if same(line, b"full") {
-        return First::Of(Mode(0));
+    if line == b"full".as_slice() {
+        Some(Mode::FULL)
+    } else if line == b"delta".as_slice() {
+        Some(Mode::DELTA)
+    } else {
+        None
     }
-    if same(line, b"delta") {
-        return First::Of(Mode(1));
-    }
-    First::Malformed
 }

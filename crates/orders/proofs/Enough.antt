@@ -1,4 +1,5 @@
 -- `most_orders` rows are enough for any request, so that the request on numbers answers for the records. Assumes nothing.
+use Rattle.std.specs.Prelude.{Result}
 use Prim.Native.Nat.{ℕ, ◌+◌, ◌*◌, ◌≤◌}
 use mathlib.Core.Path.{◌≡◌, refl, sym, ap, ◌∙◌}
 use mathlib.Core.Bool.{Bool, true, false, cond}
@@ -18,11 +19,11 @@ use Rattle.rules.specs.Calls.{Change, changing, change_by, change, rows_lent, or
 use Rattle.rules.specs.declared.Head.{Head}
 use Rattle.rules.specs.declared.Order.{Order}
 use Rattle.rules.specs.declared.Refusal.{Refusal}
-use Rattle.rules.specs.declared.Changed.{Changed}
 use Rattle.theorems.proofs.RequestLaws.{common-none, verdict-append, limits-none}
 use Rattle.theorems.proofs.OrderLaws.{most_rows, rows-enough}
 use Rattle.theorems.proofs.ServeLaws.{length-orders}
 use Rattle.orders.specs.Records.{over, most_orders, most_numbers, least, filled, count_of, recording, records_by, recorded_by, recorded}
+use Rattle.rules.specs.declared.Applied.{Applied}
 use Rattle.orders.proofs.Records.{over_none, orders-back}
 
 -- ---- 10 on `room` rows is 10 on as many of them as can be needed
@@ -85,7 +86,7 @@ filled-few q h t room rows = go (refusal t (book_in h t) room q) refl
     go none e = given-few t (book_in h t) (least room) q (sym (room-enough t (book_in h t) room q) ∙ e)
 
 -- the rows that were given stand in the numbers, and there is a record for each
-pub filled-counts : (q : Request) (h : Head) (t : Tables) (room : ℕ) (rows : List ℕ) {c : Changed} {u : Tables} {ys : List ℕ} {n : ℕ} → changing c u ys ≡ filled q h t room rows → n ≡ count_of c → length ys ≡ most_numbers
+pub filled-counts : (q : Request) (h : Head) (t : Tables) (room : ℕ) (rows : List ℕ) {c : Result Applied Refusal} {u : Tables} {ys : List ℕ} {n : ℕ} → changing c u ys ≡ filled q h t room rows → n ≡ count_of c → length ys ≡ most_numbers
     → (n * 3 ≤ length ys) × (n ≤ room)
 filled-counts q h t room rows {n = n} e k l =
     let few : n ≤ least room = rw (k ∙ ap (λ (z : Change). count_of z.answer) e) (filled-few q h t room rows) in
@@ -105,7 +106,7 @@ unfolding rows_lent
 rows-lent n rows l = omega (arith, length-take-le (n * 3) rows l)
 
 module _ (v : Option Refusal) (d : Done) (t : Tables) (m : ℕ) (rows : List ℕ) (l : m ≤ length rows) (fits : v ≡ none → length (order_rows d.orders) ≤ m) where
-  change-part : {c : Changed} {u : Tables} {ys : List ℕ} → changing c u ys ≡ change_by v d t (take m rows) → changing c u (ys ++ drop m rows) ≡ change_by v d t rows
+  change-part : {c : Result Applied Refusal} {u : Tables} {ys : List ℕ} → changing c u ys ≡ change_by v d t (take m rows) → changing c u (ys ++ drop m rows) ≡ change_by v d t rows
   unfolding change_by
   change-part {c} {u} {ys} e = ap (λ (z : Change). changing z.answer z.tables (z.orders ++ drop m rows)) e ∙ go v fits
     where
@@ -113,7 +114,7 @@ module _ (v : Option Refusal) (d : Done) (t : Tables) (m : ℕ) (rows : List ℕ
       go (some r) f = ap (changing _ t) (take-append-drop m rows)
       go none f = ap (changing _ _) (behind m (order_rows d.orders) rows (f refl) l)
 
-pub filled-by : (q : Request) (h : Head) (t : Tables) (room : ℕ) (rows : List ℕ) {n : ℕ} {c : Changed} {u : Tables} {ys : List ℕ} → most_numbers ≤ length rows → n ≡ least room → changing c u ys ≡ change q h t (take (n * 3) rows)
+pub filled-by : (q : Request) (h : Head) (t : Tables) (room : ℕ) (rows : List ℕ) {n : ℕ} {c : Result Applied Refusal} {u : Tables} {ys : List ℕ} → most_numbers ≤ length rows → n ≡ least room → changing c u ys ≡ change q h t (take (n * 3) rows)
     → changing c u (ys ++ drop (n * 3) rows) ≡ filled q h t room rows
 unfolding filled change
 filled-by q h t room rows {n} l k e =
@@ -127,7 +128,7 @@ filled-by q h t room rows {n} l k e =
 -- ---- the records
 
 -- a request on numbers, its rows stored as records, is the request on the records
-pub record-by : (v : Option Refusal) (d : Done) (t : Tables) (rows : List ℕ) (list : List Order) {c : Changed} {u : Tables} {ys : List ℕ} {zs : List Order} {n : ℕ} → changing c u ys ≡ change_by v d t rows → n ≡ count_of c → zs ≡ over (orders_in n ys) list
+pub record-by : (v : Option Refusal) (d : Done) (t : Tables) (rows : List ℕ) (list : List Order) {c : Result Applied Refusal} {u : Tables} {ys : List ℕ} {zs : List Order} {n : ℕ} → changing c u ys ≡ change_by v d t rows → n ≡ count_of c → zs ≡ over (orders_in n ys) list
     → recording c u zs ≡ recorded_by v d t list
 unfolding change_by recorded_by records_by
 record-by (some r) d t rows list {c} {u} {ys} {zs} {n} e k f =
@@ -139,7 +140,7 @@ record-by none d t rows list {c} {u} {ys} {zs} {n} e k f =
     let back : orders_in n ys ≡ d.orders = ap (λ (m : ℕ). orders_in m ys) all-given ∙ ap (λ (z : Change). orders_in (length d.orders) z.orders) e ∙ orders-back d.orders rows in
     ap (λ (z : Change). recording z.answer z.tables zs) e ∙ ap (recording _ _) (f ∙ ap (λ (os : List Order). over os list) back)
 
-pub recorded-by : (q : Request) (h : Head) (t : Tables) (rows : List ℕ) (list : List Order) {c : Changed} {u : Tables} {ys : List ℕ} {zs : List Order} {n : ℕ} → changing c u ys ≡ filled q h t (length list) rows → n ≡ count_of c → zs ≡ over (orders_in n ys) list
+pub recorded-by : (q : Request) (h : Head) (t : Tables) (rows : List ℕ) (list : List Order) {c : Result Applied Refusal} {u : Tables} {ys : List ℕ} {zs : List Order} {n : ℕ} → changing c u ys ≡ filled q h t (length list) rows → n ≡ count_of c → zs ≡ over (orders_in n ys) list
     → recording c u zs ≡ recorded q h t list
 unfolding recorded filled
 recorded-by q h t rows list e k f = record-by (refusal t (book_in h t) (length list) q) (work q (book_in h t)) t rows list e k f

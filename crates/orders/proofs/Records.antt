@@ -43,13 +43,16 @@ pub over_none : (list : List Order) (rows : List ℕ) → list ≡ over (orders_
 unfolding over orders_in rows_of
 over_none list rows = refl
 
-pub over-more : (list : List Order) (rows : List ℕ) (i : ℕ) → i < length list → set (over (orders_in i rows) list) i (order_at rows i) ≡ over (orders_in (suc i) rows) list
+over-more : (list : List Order) (rows : List ℕ) (i : ℕ) → i < length list → set (over (orders_in i rows) list) i (order_at rows i) ≡ over (orders_in (suc i) rows) list
 unfolding over
 over-more list rows i h =
     let n = length-orders-in i rows in
     let x = order_at rows i in
     rw (one_more i rows, length-append, n, add-one, drop-cons list i zero_order h)
     (set_at (orders_in i rows) (get_or list i zero_order) (drop (suc i) list) x i n ∙ sym (append_assoc (orders_in i rows) (x ∷ []) (drop (suc i) list)))
+
+pub over-next : (list : List Order) (rows : List ℕ) (i : ℕ) → i < length list → set (over (orders_in i rows) list) i (order_at rows i) ≡ over (orders_in (i + 1) rows) list
+over-next list rows i h = rw add-one (over-more list rows i h)
 
 pub over-length : (list : List Order) (rows : List ℕ) (i : ℕ) → i ≤ length list → length (over (orders_in i rows) list) ≡ length list
 unfolding over

@@ -1,6 +1,6 @@
 -- A request whose orders go to a lent list of records: what it answers, and what it leaves in all it was lent. RULES 14.9.
 -- Assumes nothing.
-use Rattle.std.specs.Prelude.{ℕ, ◌*◌, cond, List, [], ◌++◌, ltb, length, drop}
+use Rattle.std.specs.Prelude.{ℕ, ◌*◌, cond, List, [], ◌++◌, ltb, length, drop, Result, Ok, Err}
 use Rattle.std.proofs.Math.Option.{Option, some, none}
 use Rattle.rules.specs.Requests.{Done}
 use Rattle.rules.specs.Bytes.{Tables, book_in}
@@ -8,9 +8,8 @@ use Rattle.rules.specs.Refusals.{Request, work, refusal}
 use Rattle.rules.specs.Calls.{Change, change_by}
 use Rattle.rules.specs.declared.Head.{Head}
 use Rattle.rules.specs.declared.Order.{Order}
+use Rattle.rules.specs.declared.Applied.{Applied}
 use Rattle.rules.specs.declared.Refusal.{Refusal}
-use Rattle.rules.specs.declared.Changed.{Changed}
-use Rattle.rules.specs.declared.Changed.TheVariants as changed
 
 -- ---- the call
 
@@ -19,11 +18,11 @@ unfoldable pub over : List Order → List Order → List Order
 over os list = os ++ drop (length os) list
 
 pub record Recorded : Type 0 where
-  pub answer : Changed
+  pub answer : Result Applied Refusal
   pub tables : Tables
   pub records : List Order
 
-abbrev pub recording : Changed → Tables → List Order → Recorded
+abbrev pub recording : Result Applied Refusal → Tables → List Order → Recorded
 recording a t list = record { answer = a; tables = t; records = list }
 
 -- the records that a request leaves: its orders over what was there, or what was there
@@ -56,6 +55,6 @@ unfoldable pub filled : Request → Head → Tables → ℕ → List ℕ → Cha
 filled q h t room rows = change_by (refusal t (book_in h t) room q) (work q (book_in h t)) t rows
 
 -- the orders given
-abbrev pub count_of : Changed → ℕ
-count_of (changed.Done h n) = n
-count_of (changed.No r) = 0
+abbrev pub count_of : Result Applied Refusal → ℕ
+count_of (Ok a) = a.count
+count_of (Err r) = 0

@@ -1,6 +1,5 @@
-pub mod RequestCalls
+pub mod CheckLaws
 pub mod OpenLaws
-pub mod ServeCalls
-pub mod ServeLaws
-pub mod AskedLaws
+pub mod RequestCalls
 pub mod MarkedLaws
+pub mod ServeLaws

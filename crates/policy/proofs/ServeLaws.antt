@@ -1,41 +1,39 @@
 -- Several requests in one call, served one after the other: what is served, with what the rest will give, is at each turn what the whole call gives.
 -- Assumes nothing.
+use Rattle.std.specs.Prelude.{Result, Ok, Err}
 use Prim.Native.Nat.{ℕ, ◌+◌, ◌*◌, ◌/◌, ◌-◌, ◌≤◌, ◌<◌}
 use mathlib.Core.Path.{◌≡◌, refl, sym, ap, ap₂, ◌∙◌, subst}
 use mathlib.Core.Bool.{Bool, true, false, ◌&&◌, not, cond, true≢false}
-use mathlib.Core.List.{List, [], ◌∷◌, ◌++◌, append_assoc}
-use mathlib.Core.Option.{Option, some, none}
+use mathlib.Core.List.{List, ◌∷◌, ◌++◌, append_assoc}
+use mathlib.Core.Option.{some, none}
 use native.Mathlib.Nat.{add_assoc, add-zero, zero-add}
 use native.Mathlib.Numerals.{add-one}
 use native.Mathlib.Omega.{arith}
 use lib.Dec.{ltb, lit≤}
-use lib.ListN.{length, take, drop, get_or, length-append, length-drop, take-append-drop, drop_of_length-le}
+use lib.ListN.{length, take, drop, get_or, length-append, take-append-drop, drop_of_length-le}
 use lib.Seq.{length-take-le, take_at, drop_at, drop-cons, drop-drop}
 use borrow.Author.Tests.{ltb-true, lt-ltb, le-ltb}
 use borrow.Rule.Slice.PartMut.{put_mid}
 use Rattle.rows.specs.Number.{stored}
-use Rattle.rows.proofs.Laws.{stored-none, stored-both, length-stored}
+use Rattle.rows.proofs.Laws.{stored-none, stored-both}
 use Rattle.rows.proofs.Part.{take_behind, drop-behind, part-lent, part-back}
 use Rattle.rules.specs.Bytes.{Tables, book_in}
-use Rattle.rules.specs.Refusals.{Request, joins, inserts, grants, revokes, leaves, work, own, limits, verdict, common, no_such}
-use Rattle.rules.specs.Calls.{rows_lent, change, change_by, Asked, changes, opens, nothing, asked, asked_in, One, one, change_one, open_one, All, all, Service, serving, serve_by, refusal_serve, serve_call}
+use Rattle.rules.specs.Refusals.{Request, joins, inserts, grants, revokes, leaves, work, own, limits, verdict, no_such}
+use Rattle.rules.specs.Calls.{rows_lent, change, change_by, Asked, changes, opens, nothing, asked, asked_in, One, one, change_one, open_one, All, all, Service, serving, serve_by, refusal_serve, serve_call, refused_one}
 use Rattle.rules.specs.Runs.{keep, book_of}
 use Rattle.rules.specs.declared.Head.{Head}
 use Rattle.rules.specs.declared.Refusal.{Refusal}
 use Rattle.rules.specs.declared.Refusal.TheVariants.{NoSuch, ShortList}
-use Rattle.rules.specs.declared.Served.TheVariants.{Done, No}
+use Rattle.rules.specs.declared.Applied.{Applied}
 use Rattle.theorems.proofs.ListLaws.{length-tabulate, get_or-tabulate}
-use Rattle.theorems.proofs.ByteLaws.{SameLengths}
-use Rattle.theorems.proofs.RequestLaws.{Rows, such, common-passed, verdict-first}
+use Rattle.theorems.proofs.RequestLaws.{Rows, such}
 use Rattle.theorems.proofs.SoundLaws.{Counts, sound-counts}
 use Rattle.theorems.proofs.ServeLaws.{own_orders, one-gives, ready-one, ready-refusal, ready-open}
 use Rattle.theorems.proofs.ServeLaws as laws
 use Rattle.plan.specs.Judge.{Ready}
 use Rattle.sound.specs.Check.{checked}
-use Rattle.sound.specs.declared.Checked.{Checked}
-use Rattle.sound.specs.declared.Checked.TheVariants as checks
-use Rattle.policy.specs.Serve.{within16, narrow}
-use Rattle.policy.proofs.OpenLaws.{checked-no}
+use Rattle.policy.specs.Serve.{within16, narrow, answer_row, after}
+use Rattle.policy.proofs.CheckLaws.{unsound, rest-decides}
 
 -- ---- a number past 16 bits is no user's and no resource's
 
@@ -130,13 +128,13 @@ asked-next rows i l =
 -- i requests are served, by `used` order rows, and a is what the others give
 unfoldable pub with_rest : ℕ → ℕ → List ℕ → List ℕ → All → Service
 with_rest i used answers list a =
-    serving (Done a.head (used + a.used)) a.tables (take (i * 3) answers ++ stored 0 a.answers (drop (i * 3) answers)) (take (used * 3) list ++ a.orders)
+    serving (Ok record { head = a.head; used = used + a.used }) a.tables (take (i * 3) answers ++ stored 0 a.answers (drop (i * 3) answers)) (take (used * 3) list ++ a.orders)
 
 -- and those others are qs
 abbrev pub served : List Asked → ℕ → ℕ → Head → Tables → List ℕ → List ℕ → Service
 served qs i used h t answers list = with_rest i used answers list (all qs h t (drop (used * 3) list))
 
-same-service : {h : Head} {t : Tables} {m n : ℕ} {xs ys os ps : List ℕ} → m ≡ n → xs ≡ ys → os ≡ ps → serving (Done h m) t xs os ≡ serving (Done h n) t ys ps
+same-service : {h : Head} {t : Tables} {m n : ℕ} {xs ys os ps : List ℕ} → m ≡ n → xs ≡ ys → os ≡ ps → serving (Ok record { head = h; used = m }) t xs os ≡ serving (Ok record { head = h; used = n }) t ys ps
 same-service e f g = rw (e, f, g)
 
 -- an answer row behind the first k numbers
@@ -198,40 +196,33 @@ one-room q h t list =
 
 -- i requests of a call on h, t, answers₀ and list₀ are served: they left this
 pub record Serving (requests : List ℕ) (h : Head) (t : Tables) (answers₀ list₀ : List ℕ) (i used : ℕ) (head : Head) (left : Tables) (answers list : List ℕ) : Type 0 where
-  pub within : i ≤ length requests / 3
   pub room : used * 3 ≤ length list
   pub ready : Ready head left
-  pub tables≡ : SameLengths left t
-  pub answers≡ : length answers ≡ length answers₀
-  pub list≡ : length list ≡ length list₀
   pub whole : served (drop i (asked_in requests)) i used head left answers list ≡ serve_by none (all (asked_in requests) h t list₀) t answers₀ list₀
 
-same_then : {t u v : Tables} → SameLengths t u → SameLengths u v → SameLengths t v
-same_then p q =
-    record {
-      inner_vertices = p.inner_vertices ∙ q.inner_vertices;
-      inner_tokens = p.inner_tokens ∙ q.inner_tokens;
-      outer_vertices = p.outer_vertices ∙ q.outer_vertices;
-      outer_tokens = p.outer_tokens ∙ q.outer_tokens;
-      resources = p.resources ∙ q.resources;
-    }
+-- what a request answers, by its answer row and what is after it
+one-told : (h : Head) (a : Result Applied Refusal) (t : Tables) (list : List ℕ)
+    → change_one a h t list ≡ record { row = answer_row a; count = (after h a).count; head = (after h a).head; tables = t; orders = list }
+unfolding change_one refused_one
+one-told h (Ok a) t list = refl
+one-told h (Err r) t list = refl
+
+answer-width : (a : Result Applied Refusal) → length (answer_row a) ≡ 3
+answer-width (Ok a) = refl
+answer-width (Err r) = refl
 
 module _ (requests : List ℕ) (h : Head) (t : Tables) (answers₀ list₀ : List ℕ) where
   pub serving-first : Ready h t → Serving requests h t answers₀ list₀ 0 0 h t answers₀ list₀
   unfolding with_rest serve_by
   serving-first g =
       record {
-        within = omega arith;
         room = omega arith;
         ready = g;
-        tables≡ = record { inner_vertices = refl; inner_tokens = refl; outer_vertices = refl; outer_tokens = refl; resources = refl };
-        answers≡ = refl;
-        list≡ = refl;
         whole = same-service (zero-add (all (asked_in requests) h t list₀).used) refl refl;
       }
 
   module _ {i used : ℕ} {head : Head} {left : Tables} {answers list : List ℕ} (s : Serving requests h t answers₀ list₀ i used head left answers list) where
-    pub serving-last : length requests / 3 ≤ i → serving (Done head used) left answers list ≡ serve_by none (all (asked_in requests) h t list₀) t answers₀ list₀
+    pub serving-last : length requests / 3 ≤ i → serving (Ok record { head = head; used = used }) left answers list ≡ serve_by none (all (asked_in requests) h t list₀) t answers₀ list₀
     unfolding with_rest all
     serving-last l =
         same-service (sym (add-zero used)) (sym (ap (λ (x : List ℕ). take (i * 3) answers ++ x) (stored-none 0 (drop (i * 3) answers)) ∙ take-append-drop (i * 3) answers))
@@ -239,36 +230,27 @@ module _ (requests : List ℕ) (h : Head) (t : Tables) (answers₀ list₀ : Lis
         ∙ ap (λ (qs : List Asked). served qs i used head left answers list) (sym (drop_of_length-le (asked_in requests) {i = i} (omega (arith, length-asked requests))))
         ∙ s.whole
 
-    -- its answer row is there
-    pub answer-room : rows_lent requests ≤ rows_lent answers₀ → i < length requests / 3 → i * 3 + 3 ≤ length answers
-    unfolding rows_lent
-    answer-room fits l = omega (arith, s.answers≡)
-
-    -- o is what the next one leaves, on the order rows left
-    pub serving-next : rows_lent requests ≤ rows_lent answers₀ → i < length requests / 3 → {q : Asked} → q ≡ narrow (asked_at requests i)
-        → {o : One} → o ≡ one q head left (take (length list - used * 3) (drop (used * 3) list))
-        → length o.row ≡ 3 → SameLengths o.tables left → length o.orders ≡ length (take (length list - used * 3) (drop (used * 3) list))
-        → {rows : List ℕ} → rows ≡ stored (i * 3) o.row answers
-        → Serving requests h t answers₀ list₀ (i + 1) (used + o.count) o.head o.tables rows (put_mid (used * 3) (length list - used * 3) list o.orders)
-    serving-next fits l {q} asks {o} told wide longs long {rows} put =
+    -- a is what the next one answers, on the order rows left, and f the head and the count after it
+    pub serving-next : i * 3 + 3 ≤ length answers → i < length requests / 3 → {q : Asked} → q ≡ narrow (asked_at requests i)
+        → (a : Result Applied Refusal) {left' : Tables} (os : List ℕ) → change_one a head left' os ≡ one q head left (take (length list - used * 3) (drop (used * 3) list))
+        → {f : Applied} → f ≡ after head a → {rows : List ℕ} → rows ≡ stored (i * 3) (answer_row a) answers
+        → Serving requests h t answers₀ list₀ (i + 1) (used + f.count) f.head left' rows (put_mid (used * 3) (length list - used * 3) list os)
+    serving-next row l {q} asks a {left'} os told {f} is-after {rows} put =
         let q' : Asked = asked_at requests i in
         let rest : List ℕ = drop (used * 3) list in
         let lent : take (length list - used * 3) rest ≡ rest = part-lent (used * 3) list in
-        let back : put_mid (used * 3) (length list - used * 3) list o.orders ≡ take (used * 3) list ++ o.orders = part-back (used * 3) list o.orders in
-        let is : o ≡ one q' head left rest = told ∙ ap₂ (λ (x : Asked) (y : List ℕ). one x head left y) asks lent ∙ narrow_one head left s.ready rest q' in
-        let row : i * 3 + 3 ≤ length answers = answer-room fits l in
-        let much : o.count * 3 ≤ length o.orders = subst (λ (x : One). x.count * 3 ≤ length x.orders) (sym is) (one-room q' head left rest) in
-        let sums : length (put_mid (used * 3) (length list - used * 3) list o.orders) ≡ used * 3 + length o.orders =
-        ap length back ∙ length-append (take (used * 3) list) o.orders ∙ ap (λ (n : ℕ). n + length o.orders) (length-take-le (used * 3) list s.room) in
+        let back : put_mid (used * 3) (length list - used * 3) list os ≡ take (used * 3) list ++ os = part-back (used * 3) list os in
+        let o : One = record { row = answer_row a; count = f.count; head = f.head; tables = left'; orders = os } in
+        let is : o ≡ one q' head left rest =
+        rw is-after (sym (one-told head a left' os)) ∙ told ∙ ap₂ (λ (x : Asked) (y : List ℕ). one x head left y) asks lent ∙ narrow_one head left s.ready rest q' in
+        let much : f.count * 3 ≤ length os = subst (λ (x : One). x.count * 3 ≤ length x.orders) (sym is) (one-room q' head left rest) in
+        let sums : length (put_mid (used * 3) (length list - used * 3) list os) ≡ used * 3 + length os =
+        ap length back ∙ length-append (take (used * 3) list) os ∙ ap (λ (n : ℕ). n + length os) (length-take-le (used * 3) list s.room) in
         record {
-          within = omega arith;
           room = omega (arith, sums);
           ready = ready-kept (subst (λ (x : One). laws.Ready (keep x.head x.tables)) (sym is) (ready-one q' head left rest (kept-ready head left s.ready)));
-          tables≡ = same_then longs s.tables≡;
-          answers≡ = ap length put ∙ length-stored (i * 3) o.row answers (omega arith) ∙ s.answers≡;
-          list≡ = omega (arith, sums, ap length lent, length-drop (used * 3) list, s.list≡, s.room);
-          whole = ap₂ (λ (x y : List ℕ). served (drop (i + 1) (asked_in requests)) (i + 1) (used + o.count) o.head o.tables x y) put back
-              ∙ sym (served-next q' (drop (i + 1) (asked_in requests)) i used head left answers list row s.room is wide)
+          whole = ap₂ (λ (x y : List ℕ). served (drop (i + 1) (asked_in requests)) (i + 1) (used + f.count) f.head left' x y) put back
+              ∙ sym (served-next q' (drop (i + 1) (asked_in requests)) i used head left answers list row s.room is (answer-width a))
               ∙ ap (λ (qs : List Asked). served qs i used head left answers list) (sym (asked-next requests i l))
               ∙ s.whole;
         }
@@ -277,25 +259,18 @@ module _ (requests : List ℕ) (h : Head) (t : Tables) (answers₀ list₀ : Lis
 
 module _ (requests : List ℕ) (h : Head) (t : Tables) (answers list : List ℕ) where
   -- 13 or 12
-  pub serve-unsound : {k : Checked} → k ≡ checked h t → {n : Refusal} → k ≡ checks.No n → serving (No n) t answers list ≡ serve_call requests h t answers list
+  pub serve-unsound : {k : Result Unit Refusal} {n : Refusal} → k ≡ checked h t → k ≡ Err n → serving (Err n) t answers list ≡ serve_call requests h t answers list
   unfolding serve_call serve_by refusal_serve
-  serve-unsound is e = rw (verdict-first (common t (book_in h t)) ((ShortList, ltb (rows_lent answers) (rows_lent requests)) ∷ []) (checked-no h t is e))
+  serve-unsound is e = rw (unsound h t is e _)
 
   module _ (g : Ready h t) where
-    rows-decide : refusal_serve t (book_in h t) requests answers ≡ verdict ((ShortList, ltb (rows_lent answers) (rows_lent requests)) ∷ [])
-    unfolding refusal_serve
-    rows-decide = common-passed t (book_in h t) ((ShortList, ltb (rows_lent answers) (rows_lent requests)) ∷ []) g.long g.sound'
-
     -- 10
-    pub serve-short : length answers / 3 < length requests / 3 → serving (No ShortList) t answers list ≡ serve_call requests h t answers list
-    unfolding serve_call serve_by rows_lent
-    serve-short l = rw (rows-decide ∙ verdict-here ShortList [] (lt-ltb (length answers / 3) (length requests / 3) l))
+    pub serve-short : length answers / 3 < length requests / 3 → serving (Err ShortList) t answers list ≡ serve_call requests h t answers list
+    unfolding serve_call serve_by refusal_serve rows_lent verdict
+    serve-short l = rw (rest-decides h t g _, lt-ltb (length answers / 3) (length requests / 3) l)
 
     -- none
     pub serve-served : length requests / 3 ≤ length answers / 3 → {c : Service} → c ≡ serve_by none (all (asked_in requests) h t list) t answers list
         → c ≡ serve_call requests h t answers list
-    unfolding serve_call rows_lent verdict
-    serve-served l {c} e =
-        let n : refusal_serve t (book_in h t) requests answers ≡ none =
-        rows-decide ∙ ap (λ (z : Bool). verdict ((ShortList, z) ∷ [])) (le-ltb (length answers / 3) (length requests / 3) l) in
-        e ∙ sym (ap (λ (z : Option Refusal). serve_by z (all (asked_in requests) h t list) t answers list) n)
+    unfolding serve_call refusal_serve rows_lent verdict
+    serve-served l {c} e = e ∙ rw (rest-decides h t g _, le-ltb (length answers / 3) (length requests / 3) l)

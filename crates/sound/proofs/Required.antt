@@ -21,11 +21,12 @@ use Rattle.rules.specs.Sound.{S1, max_users, max_resources, max_tokens, max_grou
 use Rattle.rules.specs.Refusals.{short}
 use Rattle.rules.specs.declared.Head.{Head}
 use Rattle.rules.specs.declared.Token.{Token}
-use Rattle.theorems.proofs.ListLaws.{every-mem, get_or-mem}
+use Rattle.theorems.proofs.ListLaws.{every-mem, get_or-mem, mem-get_or}
 use Rattle.theorems.proofs.SoundLaws.{Counts, counts-are}
 use Rattle.theorems.proofs.ByteLaws.{Long, short-long, head-in}
 use Rattle.layer.specs.Laid.{Laid, inner_shape, outer_shape, layer_of, max_vertices}
 use Rattle.layer.specs.declared.walk.Shape.{Shape}
+use Rattle.layer.specs.declared.laid.Layer.{Layer as Lent}
 use Rattle.layer.proofs.Read.{length-tokens}
 use Rattle.sound.specs.Check.{counts_of}
 use Rattle.sound.specs.Faults.{placed_in, placed_at, Ends, Inners, OuterIs, Outers}
@@ -98,6 +99,15 @@ token-ends w n m ts e x i =
 
 pub ends-among : {m n : ℕ} {ts : List Token} → m ≤ n → Ends m ts → Ends n ts
 ends-among l e t m = (omega (arith, (e t m).0), omega (arith, (e t m).1))
+
+-- the ends of a lent layer's tokens
+pub laid-ends : (l : Lent) {n : ℕ} → l.shape.vertices ≤ n → Ends n (tokens_in l.shape.width l.shape.tokens l.tokens.now)
+unfolding layer_of token_at
+laid-ends l {n} v t m =
+    let ts = tokens_in l.shape.width l.shape.tokens l.tokens.now in
+    let (k, lt, e) = mem-get_or ts (token 0 0 0) m in
+    let there : k < l.shape.tokens = omega (arith, length-tokens l.shape.width l.shape.tokens l.tokens.now) in
+    rw (← e) (omega (arith, l.laid.from< k there), omega (arith, l.laid.to< k there))
 
 layer-laid : (l : Shape) (ts vs : List ℕ) → Held l ts vs → l.tokens < 65536 → Ends l.vertices (tokens_in l.width l.tokens ts) → Laid l ts vs
 unfolding layer_of token_at

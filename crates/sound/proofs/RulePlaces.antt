@@ -1,6 +1,7 @@
 -- S1 to S8 of the book in five tables: where each is broken first, by the searches that the check makes.
 -- Assumes nothing.
 use Prim.Native.Nat.{ℕ, ◌^◌, ◌<◌}
+use Rattle.std.specs.Prelude.{Option, Result, Ok}
 use mathlib.Core.Path.{◌≡◌, refl, sym, ap, ap₂, ◌∙◌, subst}
 use mathlib.Core.Bool.{Bool, true, false, ◌&&◌, ◌||◌, not, true≢false, and-true, not-not}
 use mathlib.Core.Logic.{◌⊎◌, inl, inr}
@@ -30,50 +31,38 @@ use Rattle.theorems.proofs.FaultLaws.{counts-head}
 use Rattle.theorems.proofs.RuleLaws.{kind-cases}
 use Rattle.theorems.proofs.RowLaws.{outer-plain}
 use Rattle.theorems.proofs.ByteLaws.{head-in}
-use Rattle.layer.specs.Laid.{inner_shape, outer_shape, layer_of, found_in, is_set}
-use Rattle.layer.specs.declared.table.Found.{Found}
-use Rattle.layer.specs.declared.table.Found.TheVariants.{Nothing}
+use Rattle.layer.specs.Laid.{layer_of, found_in, is_set}
+use Rattle.layer.specs.Lent.{layer_in}
+use Rattle.layer.specs.declared.laid.Layer.{Layer as Lent}
 use Rattle.layer.specs.declared.walk.Shape.{Shape}
-use Rattle.layer.proofs.Read.{length-sets, length-tokens, length-resources}
-use Rattle.sound.specs.Check.{counts_of, row_of, missing_of, lower, broken_is}
-use Rattle.sound.specs.Faults.{placed_in, has_own_in, keeps, repeated, same_ends, again, placed_at, locked_by}
-use Rattle.sound.specs.declared.layers.Rule.{Rule}
-use Rattle.sound.specs.declared.layers.Rule.TheVariants as rule
-use Rattle.sound.specs.declared.every.Broken.{Broken}
-use Rattle.sound.specs.declared.every.Broken.TheVariants.{Nowhere}
+use Rattle.layer.proofs.Read.{length-sets, length-tokens, length-resources, layer-tokens}
+use Rattle.sound.specs.Check.{counts_of, row_of, missing_of, lower, unless}
+use Rattle.sound.specs.Faults.{placed_in, has_own_in, repeated, same_ends, again, placed_at, locked_by}
 use Rattle.rules.specs.declared.Letter.TheVariants as letter
+use Rattle.rules.specs.declared.Spot.{Spot}
 use Rattle.rules.specs.declared.Spot.TheVariants.{Leavers}
 use Rattle.sound.proofs.Spots.{row-told, thing-told, Rest, none_found, first-agree, first_either, first-numbered, first-at-number, some-not, nowhere-kept, Left}
 
 -- ---- what the searches find
 
-abbrev pub strange_sets : ℕ → ℕ → List ℕ → Found
+abbrev pub strange_sets : ℕ → ℕ → List ℕ → Option ℕ
 strange_sets u n vs = found_in n (first (λ s. not (joined_set u s)) (sets_in n vs))
 
-abbrev pub strange_tokens : ℕ → ℕ → ℕ → List ℕ → Found
+abbrev pub strange_tokens : ℕ → ℕ → ℕ → List ℕ → Option ℕ
 strange_tokens w n m ts = found_in n (first (λ t. not (placed_in m t)) (tokens_in w n ts))
 
-abbrev pub ownless_users : ℕ → ℕ → List ℕ → Found
+abbrev pub ownless_users : ℕ → ℕ → List ℕ → Option ℕ
 ownless_users u n vs = found_in u (first (λ v. not (has_own_in (sets_in n vs) v)) (up_to u))
 
-abbrev pub empty_sets : ℕ → List ℕ → Found
+abbrev pub empty_sets : ℕ → List ℕ → Option ℕ
 empty_sets n vs = found_in n (first (is_set 0) (sets_in n vs))
 
 -- the answer r of the search for the set s, which is empty
-pub empty-sought : (n : ℕ) (vs : List ℕ) {s : ℕ} {r : Found} → r ≡ found_in n (first (is_set s) (sets_in n vs)) → s ≡ 0 → r ≡ empty_sets n vs
+pub empty-sought : (n : ℕ) (vs : List ℕ) {s : ℕ} {r : Option ℕ} → r ≡ found_in n (first (is_set s) (sets_in n vs)) → s ≡ 0 → r ≡ empty_sets n vs
 empty-sought n vs e z = e ∙ ap (λ (x : ℕ). found_in n (first (is_set x) (sets_in n vs))) z
 
-abbrev pub faults : Rule → Shape → List ℕ → List ℕ → Found
-faults r l ts vs = found_in l.tokens (first (λ t. not (keeps r (layer_of l ts vs) t)) (tokens_in l.width l.tokens ts))
-
-abbrev pub equal_sets : ℕ → List ℕ → Found
+abbrev pub equal_sets : ℕ → List ℕ → Option ℕ
 equal_sets n vs = found_in n (first (repeated (sets_in n vs)) (up_to n))
-
-abbrev pub ununited : Shape → List ℕ → List ℕ → Found
-ununited l ts vs = found_in l.vertices (first (λ v. not (united_vertex (layer_of l ts vs) v)) (numbered 0 (sets_in l.vertices vs)))
-
-abbrev pub equal_tokens : Shape → List ℕ → Found
-equal_tokens l ts = found_in l.tokens (first (again (tokens_in l.width l.tokens ts)) (up_to l.tokens))
 
 plain-row : (b c : Bool) → c ≡ true → not b ≡ not (b && c)
 plain-row b c e = ap not (sym (ap (λ (z : Bool). b && z) e ∙ and-true b))
@@ -85,19 +74,19 @@ module _ (l : Shape) (ts vs : List ℕ) where
   L = layer_of l ts vs
 
   -- the answer r of a search, and what x says of it
-  module _ (k : ℕ) {r : Found} {x : Broken} (a : x ≡ row_of k r) where
-    pub sets-told : (u : ℕ) → r ≡ strange_sets u l.vertices vs → x ≡ broken_is (broken (rows k (joined_set u) L.sets ∷ []))
+  module _ (k : ℕ) {r : Option ℕ} {x : Result (Unit {0}) Spot} (a : x ≡ row_of k r) where
+    pub sets-told : (u : ℕ) → r ≡ strange_sets u l.vertices vs → x ≡ unless (broken (rows k (joined_set u) L.sets ∷ []))
     unfolding layer_of
     sets-told u e = row-told (joined_set u) (λ s. not (joined_set u s)) (sets_in l.vertices vs) (length-sets l.vertices vs) (λ s m. refl) k a e
 
-    pub tokens-told : r ≡ strange_tokens l.width l.tokens l.vertices ts → x ≡ broken_is (broken (rows k (placed_row L) L.tokens ∷ []))
+    pub tokens-told : r ≡ strange_tokens l.width l.tokens l.vertices ts → x ≡ unless (broken (rows k (placed_row L) L.tokens ∷ []))
     unfolding layer_of placed_row
     tokens-told e =
         row-told (placed_row L) (λ t. not (placed_in l.vertices t)) (tokens_in l.width l.tokens ts) (length-tokens l.width l.tokens ts)
         (λ t m. rw (length-sets l.vertices vs)) k a e
 
     -- where the rows have no kind
-    pub plain-told : l.width ≡ 4 → r ≡ strange_tokens l.width l.tokens l.vertices ts → x ≡ broken_is (broken (rows k (plain_row L) L.tokens ∷ []))
+    pub plain-told : l.width ≡ 4 → r ≡ strange_tokens l.width l.tokens l.vertices ts → x ≡ unless (broken (rows k (plain_row L) L.tokens ∷ []))
     unfolding layer_of placed_row plain_row
     plain-told w e =
         row-told (plain_row L) (λ t. not (placed_in l.vertices t)) (tokens_in l.width l.tokens ts) (length-tokens l.width l.tokens ts)
@@ -106,22 +95,12 @@ module _ (l : Shape) (ts vs : List ℕ) where
         plain : (t : Token) → Memᴰ t (tokens_in l.width l.tokens ts) → t.kind ≡ 0
         plain t m = outer-plain l.tokens ts (rw w at m)
 
-    pub empty-told : r ≡ empty_sets l.vertices vs → x ≡ broken_is (broken (rows k not_empty L.sets ∷ []))
+    pub empty-told : r ≡ empty_sets l.vertices vs → x ≡ unless (broken (rows k not_empty L.sets ∷ []))
     unfolding layer_of not_empty
     empty-told e =
         row-told not_empty (is_set 0) (sets_in l.vertices vs) (length-sets l.vertices vs) (λ s m. sym (not-not (eqb s 0))) k a e
 
-    pub faults-told : (q : Rule) → r ≡ faults q l ts vs → x ≡ broken_is (broken (rows k (keeps q L) L.tokens ∷ []))
-    unfolding layer_of
-    faults-told q e = row-told (keeps q L) (λ t. not (keeps q L t)) (tokens_in l.width l.tokens ts) (length-tokens l.width l.tokens ts) (λ t m. refl) k a e
-
-    pub united-told : r ≡ ununited l ts vs → x ≡ broken_is (broken (rows k (united_vertex L) (numbered 0 L.sets) ∷ []))
-    unfolding layer_of
-    united-told e =
-        row-told (united_vertex L) (λ v. not (united_vertex L v)) (numbered 0 (sets_in l.vertices vs))
-        (length-numbered 0 (sets_in l.vertices vs) ∙ length-sets l.vertices vs) (λ v m. refl) k a e
-
-    pub equal-told : r ≡ equal_sets l.vertices vs → x ≡ broken_is (broken (rows k (unlike_earlier unequal L.sets) (numbered 0 L.sets) ∷ []))
+    pub equal-told : r ≡ equal_sets l.vertices vs → x ≡ unless (broken (rows k (unlike_earlier unequal L.sets) (numbered 0 L.sets) ∷ []))
     unfolding layer_of unlike_earlier unequal repeated
     equal-told e =
         row-told (unlike_earlier unequal sets) (λ v. not (unlike_earlier unequal sets v)) (numbered 0 sets)
@@ -138,10 +117,29 @@ module _ (l : Shape) (ts vs : List ℕ) where
             sym (some-not (λ s. not (eqb s (get_or (sets_in l.vertices vs) i 0))) (λ s. eqb s (get_or (sets_in l.vertices vs) i 0)) (take i (sets_in l.vertices vs))
             (λ s n. sym (not-not (eqb s (get_or (sets_in l.vertices vs) i 0)))))
 
-  pub own-told : (u : ℕ) {r : Found} {x : Broken} → x ≡ missing_of r → r ≡ ownless_users u l.vertices vs
-      → x ≡ broken_is (broken (things (has_own L) (up_to u) ∷ []))
+  pub own-told : (u : ℕ) {r : Option ℕ} {x : Result (Unit {0}) Spot} → x ≡ missing_of r → r ≡ ownless_users u l.vertices vs
+      → x ≡ unless (broken (things (has_own L) (up_to u) ∷ []))
   unfolding layer_of has_own
   own-told u a e = thing-told (has_own L) (λ v. not (has_own_in (sets_in l.vertices vs) v)) (up_to u) (length-up_to u) (λ v m. refl) a e
+
+-- ---- a search in a lent layer
+
+module _ (l : Lent) {L : Layer} (e : layer_in l ≡ L) (k : ℕ) where
+  -- the answer r of a search, and what x says of it
+  module _ {r : Option ℕ} {x : Result (Unit {0}) Spot} (a : x ≡ row_of k r) where
+    pub faults-told : (f : Layer → Token → Bool) → r ≡ found_in l.shape.tokens (first (λ t. not (f (layer_in l) t)) (layer_in l).tokens)
+        → x ≡ unless (broken (rows k (f L) L.tokens ∷ []))
+    faults-told f q =
+        subst (λ (M : Layer). x ≡ unless (broken (rows k (f M) M.tokens ∷ []))) e
+        (row-told (f (layer_in l)) (λ t. not (f (layer_in l) t)) (layer_in l).tokens (layer-tokens l.shape l.tokens.now l.vertices.now) (λ t m. refl) k a q)
+
+    pub united-told : r ≡ found_in l.shape.vertices (first (λ v. not (united_vertex (layer_in l) v)) (numbered 0 (layer_in l).sets))
+        → x ≡ unless (broken (rows k (united_vertex L) (numbered 0 L.sets) ∷ []))
+    unfolding layer_of
+    united-told q =
+        subst (λ (M : Layer). x ≡ unless (broken (rows k (united_vertex M) (numbered 0 M.sets) ∷ []))) e
+        (row-told (united_vertex (layer_in l)) (λ v. not (united_vertex (layer_in l) v)) (numbered 0 (layer_in l).sets)
+        (length-numbered 0 (sets_in l.shape.vertices l.vertices.now) ∙ length-sets l.shape.vertices l.vertices.now) (λ v m. refl) k a q)
 
 -- ---- S6: tokens with the same ends are the same row, since a kind 0 token leads to a set that contains its source's, and a kind 1 token does not. So up
 -- to the first kind 1 token that lets in nobody new, the ends tell equal rows.
@@ -233,6 +231,35 @@ module _ (L : Layer) where
         (first-agree (λ i. not (lateral_row L (at i)) || again L.tokens i) (λ i. not (new_row L (i, at i))) n (λ i k. offends i (rw l k))
         ∙ sym (first-numbered (λ v. not (new_row L v)) (λ i. not (new_row L (i, at i))) L.tokens (token 0 0 0) l (λ i k. refl)))
 
+-- of a lent layer, by the answer of the search for equal ends
+module _ (l : Lent) {L : Layer} (e : layer_in l ≡ L) (p : every (placed_row L) L.tokens ≡ true) (r : rising L ≡ true) (k : ℕ) {b : Option ℕ}
+    (f : b ≡ found_in l.shape.tokens (first (again (tokens_in l.shape.width l.shape.tokens l.tokens.now)) (up_to l.shape.tokens))) where
+  many : length L.tokens ≡ l.shape.tokens
+  many = subst (λ (M : Layer). length M.tokens ≡ l.shape.tokens) e (layer-tokens l.shape l.tokens.now l.vertices.now)
+
+  told : row_of k (lower (found_in l.shape.tokens (first (λ t. not (lateral_row L t)) L.tokens)) b) ≡ unless (broken (rows k (new_row L) (numbered 0 L.tokens) ∷ []))
+  unfolding layer_of
+  told =
+      row-told (new_row L) (λ v. not (new_row L v)) (numbered 0 L.tokens) (length-numbered 0 L.tokens ∙ many) (λ v m. refl) k refl
+      (ap (lower (found_in l.shape.tokens (first (λ t. not (lateral_row L t)) L.tokens)))
+      (f ∙ ap (λ (M : Layer). found_in l.shape.tokens (first (again M.tokens) (up_to l.shape.tokens))) e)
+      ∙ new-rows L p r many)
+
+  -- the lower of that and the first that lets in nobody new
+  pub new-told : {a m : Option ℕ} {x : Result (Unit {0}) Spot} → x ≡ row_of k m → m ≡ lower a b → a ≡ found_in l.shape.tokens (first (λ t. not (lateral_row (layer_in l) t)) (layer_in l).tokens)
+      → x ≡ unless (broken (rows k (new_row L) (numbered 0 L.tokens) ∷ []))
+  new-told y m a =
+      y
+      ∙ ap (row_of k)
+      (m ∙ ap (λ (f : Option ℕ). lower f b) (a ∙ ap (λ (M : Layer). found_in l.shape.tokens (first (λ t. not (lateral_row M t)) M.tokens)) e))
+      ∙ told
+
+  -- no token is of kind 1
+  pub new-plain : {x : Result (Unit {0}) Spot} → ((t : Token) → Memᴰ t L.tokens → t.kind ≡ 0) → x ≡ row_of k b → x ≡ unless (broken (rows k (new_row L) (numbered 0 L.tokens) ∷ []))
+  unfolding lateral_row
+  new-plain h y =
+      y ∙ ap (λ (f : Option ℕ). row_of k (lower f b)) (sym (none_found (lateral_row L) L.tokens many (λ t m. rw (h t m)))) ∙ told
+
 -- ---- the rules of the book in the tables
 
 module _ (h : Head) (t : Tables) where
@@ -244,82 +271,72 @@ module _ (h : Head) (t : Tables) where
   counts-of = counts-head (book_in h t) ∙ ap counts_of (head-in h t)
 
   -- what the searches among the resources find
-  abbrev pub misplaced_resources : ℕ → ℕ → Found
+  abbrev pub misplaced_resources : ℕ → ℕ → Option ℕ
   misplaced_resources n m = found_in h.resources.0 (first (λ x. not (placed_at h.users.0 h.leavers.0 n m x)) (resources_in h.resources.0 t.resources))
 
-  abbrev pub unheld_resources : Shape → Found
+  abbrev pub unheld_resources : Lent → Option ℕ
   unheld_resources l =
-      found_in h.resources.0
-      (first (λ x. not (within x.list (holders (layer_of l t.inner_tokens t.inner_vertices) x.inner))) (resources_in h.resources.0 t.resources))
+      found_in h.resources.0 (first (λ x. not (within x.list (holders (layer_in l) x.inner))) (resources_in h.resources.0 t.resources))
 
-  abbrev pub unlocked_resources : Shape → Found
+  abbrev pub unlocked_resources : Lent → Option ℕ
   unlocked_resources l =
       found_in h.resources.0
-      (first
-      (λ x. not (locked_by h.mode.0 (holders (layer_of l t.inner_tokens t.inner_vertices) x.inner) (sets_in h.outer_vertices.0 t.outer_vertices) x))
-      (resources_in h.resources.0 t.resources))
+      (first (λ x. not (locked_by h.mode.0 (holders (layer_in l) x.inner) (sets_in h.outer_vertices.0 t.outer_vertices) x)) (resources_in h.resources.0 t.resources))
 
-  -- what S1 to S6 test, one search after the other; i and o are the layers' shapes
-  module _ {i o : Shape} (ie : i ≡ inner_shape h) (oe : o ≡ outer_shape h) where
-    abbrev Inner : Layer
-    Inner = layer_of i t.inner_tokens t.inner_vertices
+  -- what S1 to S6 test, one search after the other
+  pub s1-rest : Rest (broken (rows1 (book_in h t)))
+      (thing Leavers (ltb h.leavers.0 (2 ^ h.users.0))
+      ∷ rows 0 (joined_set h.users.0) B.inner.sets ∷ rows 1 (placed_row B.inner) B.inner.tokens ∷ rows 2 (joined_set h.users.0) B.outer.sets
+      ∷ rows 3 (plain_row B.outer) B.outer.tokens ∷ rows 4 (placed B) (resources_in h.resources.0 t.resources) ∷ [])
+  unfolding rows1 joined_set book_in
+  s1-rest = record { is = refl }
 
-    abbrev Outer : Layer
-    Outer = layer_of o t.outer_tokens t.outer_vertices
+  pub s2-rest : Rest (broken (rows2 (book_in h t)))
+      (things (has_own B.inner) (up_to h.users.0) ∷ things (has_own B.outer) (up_to h.users.0) ∷ rows 0 not_empty B.inner.sets
+      ∷ rows 1 (enters_group B.inner) B.inner.tokens ∷ rows 3 (enters_group B.outer) B.outer.tokens ∷ [])
+  unfolding rows2 book_in
+  s2-rest = record { is = refl }
 
-    pub s1-rest : Rest (broken (rows1 (book_in h t)))
-        (thing Leavers (ltb h.leavers.0 (2 ^ h.users.0))
-        ∷ rows 0 (joined_set h.users.0) Inner.sets ∷ rows 1 (placed_row Inner) Inner.tokens ∷ rows 2 (joined_set h.users.0) Outer.sets
-        ∷ rows 3 (plain_row Outer) Outer.tokens ∷ rows 4 (placed B) (resources_in h.resources.0 t.resources) ∷ [])
-    unfolding rows1 joined_set book_in layer_of
-    s1-rest = rw (ie, oe) (record { is = refl })
+  pub s3-rest : Rest (broken (rows3 (book_in h t)))
+      (rows 0 (unlike_earlier unequal B.inner.sets) (numbered 0 B.inner.sets) ∷ rows 2 (unlike_earlier unequal B.outer.sets) (numbered 0 B.outer.sets) ∷ [])
+  unfolding rows3
+  s3-rest = record { is = refl }
 
-    pub s2-rest : Rest (broken (rows2 (book_in h t)))
-        (things (has_own Inner) (up_to h.users.0) ∷ things (has_own Outer) (up_to h.users.0) ∷ rows 0 not_empty Inner.sets
-        ∷ rows 1 (keeps rule.S2 Inner) Inner.tokens ∷ rows 3 (keeps rule.S2 Outer) Outer.tokens ∷ [])
-    unfolding rows2 enters_group book_in layer_of
-    s2-rest = rw (ie, oe) (record { is = refl })
+  pub s4-rest : Rest (broken (rows4 (book_in h t))) (rows 1 (rising_row B.inner) B.inner.tokens ∷ rows 3 (rising_row B.outer) B.outer.tokens ∷ [])
+  unfolding rows4
+  s4-rest = record { is = refl }
 
-    pub s3-rest : Rest (broken (rows3 (book_in h t)))
-        (rows 0 (unlike_earlier unequal Inner.sets) (numbered 0 Inner.sets) ∷ rows 2 (unlike_earlier unequal Outer.sets) (numbered 0 Outer.sets) ∷ [])
-    unfolding rows3 book_in layer_of
-    s3-rest = rw (ie, oe) (record { is = refl })
+  pub s5-rest : Rest (broken (rows5 (book_in h t)))
+      (rows 0 (united_vertex B.inner) (numbered 0 B.inner.sets) ∷ rows 2 (united_vertex B.outer) (numbered 0 B.outer.sets) ∷ [])
+  unfolding rows5
+  s5-rest = record { is = refl }
 
-    pub s4-rest : Rest (broken (rows4 (book_in h t))) (rows 1 (keeps rule.S4 Inner) Inner.tokens ∷ rows 3 (keeps rule.S4 Outer) Outer.tokens ∷ [])
-    unfolding rows4 rising_row book_in layer_of
-    s4-rest = rw (ie, oe) (record { is = refl })
+  pub s6-rest : Rest (broken (rows6 (book_in h t)))
+      (rows 1 (new_row B.inner) (numbered 0 B.inner.tokens) ∷ rows 3 (new_row B.outer) (numbered 0 B.outer.tokens) ∷ [])
+  unfolding rows6
+  s6-rest = record { is = refl }
 
-    pub s5-rest : Rest (broken (rows5 (book_in h t)))
-        (rows 0 (united_vertex Inner) (numbered 0 Inner.sets) ∷ rows 2 (united_vertex Outer) (numbered 0 Outer.sets) ∷ [])
-    unfolding rows5 book_in layer_of
-    s5-rest = rw (ie, oe) (record { is = refl })
-
-    pub s6-rest : Rest (broken (rows6 (book_in h t)))
-        (rows 1 (new_row Inner) (numbered 0 Inner.tokens) ∷ rows 3 (new_row Outer) (numbered 0 Outer.tokens) ∷ [])
-    unfolding rows6 book_in layer_of
-    s6-rest = rw (ie, oe) (record { is = refl })
-
-    -- the answer r of the search among the resources, and what x says of it
-    pub placed-told : {r : Found} {x : Broken} → x ≡ row_of 4 r → r ≡ misplaced_resources i.vertices o.vertices
-        → x ≡ broken_is (broken (rows 4 (placed B) (resources_in h.resources.0 t.resources) ∷ []))
+  -- the answer r of the search among the resources, and what x says of it
+  module _ {r : Option ℕ} {x : Result (Unit {0}) Spot} (y : x ≡ row_of 4 r) where
+    pub placed-told : r ≡ misplaced_resources h.inner_vertices.0 h.outer_vertices.0 → x ≡ unless (broken (rows 4 (placed B) (resources_in h.resources.0 t.resources) ∷ []))
     unfolding book_in placed
-    placed-told a e =
+    placed-told e =
         row-told (placed B) (λ x. not (placed_at h.users.0 h.leavers.0 h.inner_vertices.0 h.outer_vertices.0 x)) (resources_in h.resources.0 t.resources)
         (length-resources h.resources.0 t.resources)
-        (λ x m. rw (length-sets h.inner_vertices.0 t.inner_vertices, length-sets h.outer_vertices.0 t.outer_vertices)) 4 a (rw (ie, oe) at e)
+        (λ x m. rw (length-sets h.inner_vertices.0 t.inner_vertices, length-sets h.outer_vertices.0 t.outer_vertices)) 4 y e
 
-  module _ {i : Shape} (ie : i ≡ inner_shape h) where
-    pub s7-told : {a : Found} {x : Broken} → a ≡ unheld_resources i → x ≡ row_of 4 a → x ≡ broken_is (broken (rows7 (book_in h t)))
-    unfolding rows7 held book_in layer_of
-    s7-told a x =
-        row-told (held B) (λ x. not (held B x)) (resources_in h.resources.0 t.resources) (length-resources h.resources.0 t.resources) (λ y m. refl) 4 x
-        (rw ie at a)
+    module _ (l : Lent) (e : layer_in l ≡ B.inner) where
+      pub s7-told : r ≡ unheld_resources l → x ≡ unless (broken (rows7 (book_in h t)))
+      unfolding rows7 held book_in
+      s7-told a =
+          row-told (held B) (λ x. not (held B x)) (resources_in h.resources.0 t.resources) (length-resources h.resources.0 t.resources) (λ y m. refl) 4 y
+          (rw e at a)
 
-    pub s8-told : {a : Found} {x : Broken} → a ≡ unlocked_resources i → x ≡ row_of 4 a → x ≡ broken_is (broken (rows8 (book_in h t)))
-    unfolding rows8 locked locked_for set_of book_in layer_of
-    s8-told a x =
-        row-told (locked B) (λ x. not (locked B x)) (resources_in h.resources.0 t.resources) (length-resources h.resources.0 t.resources) (λ y m. refl) 4 x
-        (rw ie at a)
+      pub s8-told : r ≡ unlocked_resources l → x ≡ unless (broken (rows8 (book_in h t)))
+      unfolding rows8 locked locked_for set_of book_in
+      s8-told a =
+          row-told (locked B) (λ x. not (locked B x)) (resources_in h.resources.0 t.resources) (length-resources h.resources.0 t.resources) (λ y m. refl) 4 y
+          (rw e at a)
 
   -- what S1 says of the counts and of the rows that others speak of
   module _ (s1 : S1 B ≡ true) where
@@ -352,45 +369,35 @@ module _ (h : Head) (t : Tables) where
         subst (λ (n : ℕ). every (placed_at h.users.0 h.leavers.0 n h.outer_vertices.0) (resources_in h.resources.0 t.resources) ≡ true) (length-sets h.inner_vertices.0 t.inner_vertices)
         (subst (λ (m : ℕ). every (placed_at h.users.0 h.leavers.0 (length (sets_in h.inner_vertices.0 t.inner_vertices)) m) (resources_in h.resources.0 t.resources) ≡ true) (length-sets h.outer_vertices.0 t.outer_vertices) parts1.3)
 
-    module _ {i o : Shape} (ie : i ≡ inner_shape h) (oe : o ≡ outer_shape h) (s4 : S4 B ≡ true) where
-      -- the lower of two searches' rows
-      pub new-inner : {a b e : Found} {x : Broken} → x ≡ row_of 1 e → e ≡ lower a b
-          → a ≡ faults rule.S6 i t.inner_tokens t.inner_vertices → b ≡ equal_tokens i t.inner_tokens
-          → x ≡ broken_is (broken (rows 1 (new_row (layer_of i t.inner_tokens t.inner_vertices)) (numbered 0 (layer_of i t.inner_tokens t.inner_vertices).tokens) ∷ []))
-      unfolding lateral_row book_in layer_of
-      new-inner x e a b =
-          let ri = (both (rising B.inner) (rising B.outer) (sym (s4-is B) ∙ s4)).0 in
-          rw ie
-          (row-told (new_row B.inner) (λ v. not (new_row B.inner v)) (numbered 0 B.inner.tokens) (length-numbered 0 B.inner.tokens ∙ length-tokens 5 h.inner_tokens.0 t.inner_tokens)
-          (λ v m. refl) 1 x (e ∙ ap₂ lower (rw ie at a) (rw ie at b) ∙ new-rows B.inner parts1.1 ri (length-tokens 5 h.inner_tokens.0 t.inner_tokens)))
+    -- S6's rows, where S4 holds too
+    module _ (s4 : S4 B ≡ true) where
+      risen : (rising B.inner ≡ true) × (rising B.outer ≡ true)
+      risen = both (rising B.inner) (rising B.outer) (sym (s4-is B) ∙ s4)
+
+      pub new-inner : (l : Lent) {a b m : Option ℕ} {x : Result (Unit {0}) Spot} → layer_in l ≡ B.inner → x ≡ row_of 1 m → m ≡ lower a b
+          → a ≡ found_in l.shape.tokens (first (λ t. not (lateral_row (layer_in l) t)) (layer_in l).tokens)
+          → b ≡ found_in l.shape.tokens (first (again (tokens_in l.shape.width l.shape.tokens l.tokens.now)) (up_to l.shape.tokens))
+          → x ≡ unless (broken (rows 1 (new_row B.inner) (numbered 0 B.inner.tokens) ∷ []))
+      new-inner l e x m a b = new-told l e parts1.1 risen.0 1 b x m a
 
       -- an outer token is never of kind 1
-      pub new-outer : {b : Found} {x : Broken} → x ≡ row_of 3 b → b ≡ equal_tokens o t.outer_tokens
-          → x ≡ broken_is (broken (rows 3 (new_row (layer_of o t.outer_tokens t.outer_vertices)) (numbered 0 (layer_of o t.outer_tokens t.outer_vertices).tokens) ∷ []))
-      unfolding lateral_row book_in layer_of
-      new-outer x b =
-          let ro = (both (rising B.inner) (rising B.outer) (sym (s4-is B) ∙ s4)).1 in
-          rw oe
-          (row-told (new_row B.outer) (λ v. not (new_row B.outer v)) (numbered 0 B.outer.tokens) (length-numbered 0 B.outer.tokens ∙ length-tokens 4 h.outer_tokens.0 t.outer_tokens)
-          (λ v m. refl) 3 x
-          (rw oe at b ∙ ap (λ (f : Found). lower f (equal_tokens (outer_shape h) t.outer_tokens)) (sym none-lateral)
-          ∙ new-rows B.outer parts1.2 ro (length-tokens 4 h.outer_tokens.0 t.outer_tokens)))
-        where
-          none-lateral : found_in h.outer_tokens.0 (first (λ t. not (lateral_row B.outer t)) B.outer.tokens) ≡ Nothing
-          none-lateral =
-              none_found (lateral_row B.outer) B.outer.tokens (length-tokens 4 h.outer_tokens.0 t.outer_tokens)
-              (λ x m. rw (outer-plain h.outer_tokens.0 t.outer_tokens m))
+      pub new-outer : (l : Lent) {b : Option ℕ} {x : Result (Unit {0}) Spot} → layer_in l ≡ B.outer → x ≡ row_of 3 b
+          → b ≡ found_in l.shape.tokens (first (again (tokens_in l.shape.width l.shape.tokens l.tokens.now)) (up_to l.shape.tokens))
+          → x ≡ unless (broken (rows 3 (new_row B.outer) (numbered 0 B.outer.tokens) ∷ []))
+      unfolding book_in
+      new-outer l e x b = new-plain l e parts1.2 risen.1 3 b (λ s m. outer-plain h.outer_tokens.0 t.outer_tokens m) x
 
 -- ---- the rules one after the other
 
 -- a rule that is broken nowhere holds
-pub s1-holds : (h : Head) (t : Tables) {x : Broken} → counts_of h ≡ true → x ≡ broken_is (broken (rows1 (book_in h t))) → x ≡ Nowhere → S1 (book_in h t) ≡ true
-unfolding S1
-s1-holds h t c a e = rw (counts-of h t ∙ c) (nowhere-kept (rows1 (book_in h t)) a e)
+module _ (h : Head) (t : Tables) {x : Result (Unit {0}) Spot} where
+  pub s1-holds : counts_of h ≡ true → x ≡ unless (broken (rows1 (book_in h t))) → x ≡ Ok tt → S1 (book_in h t) ≡ true
+  unfolding S1
+  s1-holds c a e = rw (counts-of h t ∙ c) (nowhere-kept (rows1 (book_in h t)) a e)
 
-pub s4-holds : (h : Head) (t : Tables) {x : Broken} → x ≡ broken_is (broken (rows4 (book_in h t))) → x ≡ Nowhere → S4 (book_in h t) ≡ true
-unfolding S4
-s4-holds h t a e = nowhere-kept (rows4 (book_in h t)) a e
+  pub s4-holds : x ≡ unless (broken (rows4 (book_in h t))) → x ≡ Ok tt → S4 (book_in h t) ≡ true
+  unfolding S4
+  s4-holds a e = nowhere-kept (rows4 (book_in h t)) a e
 
 pub whole : (b : Book)
     → Left (first_rule (rules b))

@@ -1,5 +1,6 @@
 -- S3 and S6, no two equal, as the code looks for them: a pass over the rows, with a mark for each row that was met.
 -- Assumes nothing.
+use Rattle.std.specs.Prelude.{Some}
 use Prim.Native.Nat.{ℕ, ◌+◌, ◌*◌, ◌/◌, ◌%◌, ◌<◌}
 use mathlib.Core.Path.{◌≡◌, refl, sym, ap, ap₂, ◌∙◌}
 use mathlib.Core.Bool.{Bool, true, false, ◌||◌, or-false, true≢false}
@@ -19,7 +20,6 @@ use Rattle.rules.specs.Layer.{token}
 use Rattle.rules.specs.declared.Token.{Token}
 use Rattle.theorems.proofs.ListLaws.{some-append, some_more, take-mem}
 use Rattle.layer.specs.Laid.{max_vertices, found_in}
-use Rattle.layer.specs.declared.table.Found.TheVariants.{At}
 use Rattle.layer.proofs.Search.{Passed, number-here, number-on}
 use Rattle.sound.specs.Faults.{repeated, same_ends, again, Ends}
 use Rattle.sound.specs.Marks.{marked, with_mark, mark_of}
@@ -164,7 +164,7 @@ module _ (ts : List Token) (n : ℕ) where
           (some_more (λ x. eqb (ends_of x) (ends_of t)) (λ x. same_ends x t) (take i ts) (λ x y p. same-mark x t (take-mem i ts y) m ∙ p))
           ∙ sym (met-before ends_of ts 4096 (token 0 0 0) h.1 (omega arith) e q w b))
 
-      pub apart-here : r ≡ true → At i ≡ found_in n (first (again ts) (up_to n))
+      pub apart-here : r ≡ true → Some i ≡ found_in n (first (again ts) (up_to n))
       apart-here z = number-here (again ts) n h.0 l (again-is ∙ z)
 
       pub apart-on : r ≡ false → {after : List ℕ} → after ≡ with_mark words k → Apart (i + 1) after

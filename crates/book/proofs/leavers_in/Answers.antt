@@ -11,9 +11,9 @@ version_in-requires c = omega (arith, c.requires, fore-within (version_in c.args
 pub returns-then-version_in-eq1 : goal.returns-then-version_in-eq1
 returns-then-version_in-eq1 c = none_left _ c.version_in.ensures c.if-version_in-eq1.true c.empty.ensures
 
-pub read-requires : goal.read-requires
-read-requires c =
+pub get-requires : goal.get-requires
+get-requires c =
     omega (arith, c.requires, fore-later (version_in c.args.bytes.now) (λ e. c.if-version_in-eq1.false (c.version_in.ensures ∙ e)))
 
 pub returns : goal.returns
-returns c = some_left _ c.version_in.ensures c.if-version_in-eq1.false c.read.ensures
+returns c = some_left _ c.version_in.ensures c.if-version_in-eq1.false c.get.ensures

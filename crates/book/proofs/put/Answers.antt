@@ -1,15 +1,14 @@
 -- `book::put` meets its contract. Assumes nothing.
-use native.Mathlib.Omega.{arith}
-use lib.ListN.{take, length-take, length-drop}
-use Rattle.rows.proofs.Part.{stored-part}
+use Rattle.std.proofs.Common.{◌≡◌, ℕ, ◌+◌, ◌-◌, List, length, arith}
+use borrow.Rule.Slice.PartMut.{put_mid}
+use lib.Seq.{drop-drop}
+use Rattle.rows.specs.Number.{stored}
 use Rattle.book.proofs.put.Goals as goal
 
-pub slice_bounds-copy-end : goal.slice_bounds-copy-end
-slice_bounds-copy-end c = simp length-take (omega arith)
-
-pub copy-requires : goal.copy-requires
-copy-requires c = simp (length-take, length-drop) (omega arith)
+part : (at : ℕ) (bs t : List ℕ) {new : List ℕ} → new ≡ bs → put_mid at (at + length bs - at) t new ≡ stored at bs t
+unfolding stored
+part at bs t e =
+    let n : at + length bs - at ≡ length bs = omega arith in rw (e, n, drop-drop (length bs) at t)
 
 pub returns : goal.returns
-returns c =
-    stored-part c.args.at (take c.args.n c.args.table.now) c.args.buffer.now _ (omega arith) c.copy.ensures
+returns c = part _ _ _ c.copy_from_slice.ensures.after

@@ -1,83 +1,68 @@
--- `book::save` meets its contract. Assumes nothing.
-use mathlib.Core.Path.{◌∙◌}
-use native.Mathlib.Omega.{arith}
-use Rattle.rules.specs.Bytes.{newest, fore, start, Tables, tables}
-use Rattle.theorems.proofs.ByteLaws.{TableBytes}
+-- `book::save` meets its contract: each section is stored where the one before it ends. Assumes nothing.
+use Rattle.std.proofs.Common.{sym, arith}
+use lib.ListN.{length-take}
+use lib.Seq.{length-take-le}
+use Rattle.rules.specs.Bytes.{newest, start, fore}
 use Rattle.book.proofs.Laws.{cuts, saved}
 use Rattle.book.proofs.save.Goals as goal
 
--- ---- the needs
 pub put_front-requires : goal.put_front-requires
 unfolding start fore
 put_front-requires c = omega (arith, c.requires)
 
-pub overflow_sub-a : goal.overflow_sub-a
-overflow_sub-a c =
-    let starts = cuts newest c.args.h _ _ _ _ _ c.start_of-z.ensures c.start_of-a.ensures c.start_of-b.ensures c.start_of-c.ensures c.start_of-d.ensures in
-    omega (arith, starts)
+pub slice_bounds-put-count : goal.slice_bounds-put-count
+slice_bounds-put-count c = omega (arith, cuts newest c.args.h _ _ _ _ _ c.start_of-z.ensures c.start_of-a.ensures c.start_of-b.ensures c.start_of-c.ensures c.start_of-d.ensures)
+
+pub slice_bounds-put-length : goal.slice_bounds-put-length
+slice_bounds-put-length c = sym (length-take-le _ _ (omega (arith, c.requires.room.inner_vertices, cuts newest c.args.h _ _ _ _ _ c.start_of-z.ensures c.start_of-a.ensures c.start_of-b.ensures c.start_of-c.ensures c.start_of-d.ensures)))
 
 pub put-requires : goal.put-requires
 put-requires c =
-    let starts = cuts newest c.args.h _ _ _ _ _ c.start_of-z.ensures c.start_of-a.ensures c.start_of-b.ensures c.start_of-c.ensures c.start_of-d.ensures in
-    omega (arith, starts)
+    simp length-take (omega (arith, c.requires.room.inner_vertices, c.requires.long, c.start_of-end.ensures, c.put_front.auto.buffer, cuts newest c.args.h _ _ _ _ _ c.start_of-z.ensures c.start_of-a.ensures c.start_of-b.ensures c.start_of-c.ensures c.start_of-d.ensures))
 
-pub overflow_sub-b : goal.overflow_sub-b
-overflow_sub-b c =
-    let starts = cuts newest c.args.h _ _ _ _ _ c.start_of-z.ensures c.start_of-a.ensures c.start_of-b.ensures c.start_of-c.ensures c.start_of-d.ensures in
-    omega (arith, starts)
+pub slice_bounds-put-count-2 : goal.slice_bounds-put-count-2
+slice_bounds-put-count-2 c = omega (arith, cuts newest c.args.h _ _ _ _ _ c.start_of-z.ensures c.start_of-a.ensures c.start_of-b.ensures c.start_of-c.ensures c.start_of-d.ensures)
+
+pub slice_bounds-put-length-2 : goal.slice_bounds-put-length-2
+slice_bounds-put-length-2 c = sym (length-take-le _ _ (omega (arith, c.requires.room.inner_tokens, cuts newest c.args.h _ _ _ _ _ c.start_of-z.ensures c.start_of-a.ensures c.start_of-b.ensures c.start_of-c.ensures c.start_of-d.ensures)))
 
 pub put-requires-2 : goal.put-requires-2
 put-requires-2 c =
-    let starts = cuts newest c.args.h _ _ _ _ _ c.start_of-z.ensures c.start_of-a.ensures c.start_of-b.ensures c.start_of-c.ensures c.start_of-d.ensures in
-    omega (arith, starts)
+    simp length-take (omega (arith, c.requires.room.inner_tokens, c.requires.long, c.start_of-end.ensures, c.put_front.auto.buffer, c.put.auto.buffer, cuts newest c.args.h _ _ _ _ _ c.start_of-z.ensures c.start_of-a.ensures c.start_of-b.ensures c.start_of-c.ensures c.start_of-d.ensures))
 
-pub overflow_sub-c : goal.overflow_sub-c
-overflow_sub-c c =
-    let starts = cuts newest c.args.h _ _ _ _ _ c.start_of-z.ensures c.start_of-a.ensures c.start_of-b.ensures c.start_of-c.ensures c.start_of-d.ensures in
-    omega (arith, starts)
+pub slice_bounds-put-count-3 : goal.slice_bounds-put-count-3
+slice_bounds-put-count-3 c = omega (arith, cuts newest c.args.h _ _ _ _ _ c.start_of-z.ensures c.start_of-a.ensures c.start_of-b.ensures c.start_of-c.ensures c.start_of-d.ensures)
+
+pub slice_bounds-put-length-3 : goal.slice_bounds-put-length-3
+slice_bounds-put-length-3 c = sym (length-take-le _ _ (omega (arith, c.requires.room.outer_vertices, cuts newest c.args.h _ _ _ _ _ c.start_of-z.ensures c.start_of-a.ensures c.start_of-b.ensures c.start_of-c.ensures c.start_of-d.ensures)))
 
 pub put-requires-3 : goal.put-requires-3
 put-requires-3 c =
-    let starts = cuts newest c.args.h _ _ _ _ _ c.start_of-z.ensures c.start_of-a.ensures c.start_of-b.ensures c.start_of-c.ensures c.start_of-d.ensures in
-    omega (arith, starts)
+    simp length-take (omega (arith, c.requires.room.outer_vertices, c.requires.long, c.start_of-end.ensures, c.put_front.auto.buffer, c.put.auto.buffer, c.put-2.auto.buffer, cuts newest c.args.h _ _ _ _ _ c.start_of-z.ensures c.start_of-a.ensures c.start_of-b.ensures c.start_of-c.ensures c.start_of-d.ensures))
 
-pub overflow_sub-d : goal.overflow_sub-d
-overflow_sub-d c =
-    let starts = cuts newest c.args.h _ _ _ _ _ c.start_of-z.ensures c.start_of-a.ensures c.start_of-b.ensures c.start_of-c.ensures c.start_of-d.ensures in
-    omega (arith, starts)
+pub slice_bounds-put-count-4 : goal.slice_bounds-put-count-4
+slice_bounds-put-count-4 c = omega (arith, cuts newest c.args.h _ _ _ _ _ c.start_of-z.ensures c.start_of-a.ensures c.start_of-b.ensures c.start_of-c.ensures c.start_of-d.ensures)
+
+pub slice_bounds-put-length-4 : goal.slice_bounds-put-length-4
+slice_bounds-put-length-4 c = sym (length-take-le _ _ (omega (arith, c.requires.room.outer_tokens, cuts newest c.args.h _ _ _ _ _ c.start_of-z.ensures c.start_of-a.ensures c.start_of-b.ensures c.start_of-c.ensures c.start_of-d.ensures)))
 
 pub put-requires-4 : goal.put-requires-4
 put-requires-4 c =
-    let starts = cuts newest c.args.h _ _ _ _ _ c.start_of-z.ensures c.start_of-a.ensures c.start_of-b.ensures c.start_of-c.ensures c.start_of-d.ensures in
-    omega (arith, starts)
+    simp length-take (omega (arith, c.requires.room.outer_tokens, c.requires.long, c.start_of-end.ensures, c.put_front.auto.buffer, c.put.auto.buffer, c.put-2.auto.buffer, c.put-3.auto.buffer, cuts newest c.args.h _ _ _ _ _ c.start_of-z.ensures c.start_of-a.ensures c.start_of-b.ensures c.start_of-c.ensures c.start_of-d.ensures))
 
-pub overflow_sub-start_of : goal.overflow_sub-start_of
-overflow_sub-start_of c =
-    let starts = cuts newest c.args.h _ _ _ _ _ c.start_of-z.ensures c.start_of-a.ensures c.start_of-b.ensures c.start_of-c.ensures c.start_of-d.ensures in
-    omega (arith, starts, c.start_of.ensures)
+pub slice_bounds-put-count-5 : goal.slice_bounds-put-count-5
+slice_bounds-put-count-5 c = omega (arith, cuts newest c.args.h _ _ _ _ _ c.start_of-z.ensures c.start_of-a.ensures c.start_of-b.ensures c.start_of-c.ensures c.start_of-d.ensures, c.start_of-end.ensures)
+
+pub slice_bounds-put-length-5 : goal.slice_bounds-put-length-5
+slice_bounds-put-length-5 c = sym (length-take-le _ _ (omega (arith, c.requires.room.resources, cuts newest c.args.h _ _ _ _ _ c.start_of-z.ensures c.start_of-a.ensures c.start_of-b.ensures c.start_of-c.ensures c.start_of-d.ensures, c.start_of-end.ensures)))
 
 pub put-requires-5 : goal.put-requires-5
 put-requires-5 c =
-    let starts = cuts newest c.args.h _ _ _ _ _ c.start_of-z.ensures c.start_of-a.ensures c.start_of-b.ensures c.start_of-c.ensures c.start_of-d.ensures in
-    omega (arith, starts, c.start_of.ensures)
-
-pub shape_of-buffer : goal.shape_of-buffer
-shape_of-buffer c =
-    let starts = cuts newest c.args.h _ _ _ _ _ c.start_of-z.ensures c.start_of-a.ensures c.start_of-b.ensures c.start_of-c.ensures c.start_of-d.ensures in
-    c.put-5.auto.buffer ∙ (c.put-4.auto.buffer ∙ (c.put-3.auto.buffer ∙ (c.put-2.auto.buffer ∙ (c.put.auto.buffer ∙ c.put_front.auto.buffer))))
+    simp length-take (omega (arith, c.requires.room.resources, c.requires.long, c.start_of-end.ensures, c.put_front.auto.buffer, c.put.auto.buffer, c.put-2.auto.buffer, c.put-3.auto.buffer, c.put-4.auto.buffer, cuts newest c.args.h _ _ _ _ _ c.start_of-z.ensures c.start_of-a.ensures c.start_of-b.ensures c.start_of-c.ensures c.start_of-d.ensures))
 
 pub returns : goal.returns
 returns c =
-    let within : Tables = tables c.args.iv.now c.args.it.now c.args.ov.now c.args.ot.now c.args.rs.now in
-    let starts = cuts newest c.args.h _ _ _ _ _ c.start_of-z.ensures c.start_of-a.ensures c.start_of-b.ensures c.start_of-c.ensures c.start_of-d.ensures in
-    let bytes : TableBytes within = record {
-      inner_vertices = λ i. (c.type_inv.iv i).fits;
-      inner_tokens = λ i. (c.type_inv.it i).fits;
-      outer_vertices = λ i. (c.type_inv.ov i).fits;
-      outer_tokens = λ i. (c.type_inv.ot i).fits;
-      resources = λ i. (c.type_inv.rs i).fits;
-    } in
-    saved c.args.h within c.args.buffer.now _ _ _ _ _ _ _ _ _ _ _ c.start_of.result c.requires bytes starts c.start_of.ensures
+    saved c.args.h _ c.args.buffer.now _ _ _ _ _ _ _ _ _ _ _ c.start_of-end.result c.requires c.are_bytes.ensures (cuts newest c.args.h _ _ _ _ _ c.start_of-z.ensures c.start_of-a.ensures c.start_of-b.ensures c.start_of-c.ensures c.start_of-d.ensures) c.start_of-end.ensures
     c.put_front.ensures
     c.put.ensures
     c.put-2.ensures

@@ -40,12 +40,6 @@ overflow_add-at c =
     let small : start c.args.version c.args.h 5 < 65536 * (3 * bytes + 13) = unfold start in unfold total in unfold counts in omega (arith, c.well_formed.1.0, fore-within c.args.version) in
     omega (arith, next, start-le c.args.version c.args.h (c.loop-i.i + 1), small)
 
-pub overflow_add-i : goal.overflow_add-i
-overflow_add-i c = omega arith
-
-pub loop-i-smaller : goal.loop-i-smaller
-loop-i-smaller c = omega arith
-
 pub loop-i-preserved : goal.loop-i-preserved
 loop-i-preserved c =
     let next : c.loop-i.at + c.count_of.result * get_or widths c.loop-i.i 0 ≡ start c.args.version c.args.h (c.loop-i.i + 1) = turn _ _ _ c.loop-i.invariant.1 c.count_of.ensures in

@@ -1,4 +1,4 @@
-use Prim.Native.Nat.{◌≤◌, ◌-◌}
+use Prim.Native.Nat.{◌≤◌}
 use mathlib.Core.Path.{◌≡◌}
 use Rattle.rules.specs.Bytes.{start}
 use Rattle.book.proofs.start_of.Given as goal
@@ -6,7 +6,3 @@ use Rattle.book.proofs.start_of.Given as goal
 abbrev pub invariant-loop-i : goal.invariant-loop-i
 invariant-loop-i l =
     (l.i ≤ l.k) × (l.at ≡ start l.version l.h l.i)
-
-abbrev pub decreases-loop-i : goal.decreases-loop-i
-decreases-loop-i l =
-    l.k - l.i

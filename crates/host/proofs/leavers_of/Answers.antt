@@ -42,4 +42,4 @@ overflow_add-head c =
 
 pub returns : goal.returns
 unfolding set_from
-returns c = omega (arith, c.of_word.ensures)
+returns c = omega (arith, c.from.ensures)

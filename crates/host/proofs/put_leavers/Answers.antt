@@ -18,5 +18,5 @@ pub returns : goal.returns
 unfolding set_numbers
 returns c =
     let numbers = c.args.head.now in
-    stored-sets 7 (set_numbers set_length c.word-w.result) numbers (omega arith)
-    ∙ ap (λ (x : ℕ). stored 7 (set_numbers set_length x) numbers) c.word-w.ensures
+    stored-sets 7 (set_numbers set_length c.from-w.result) numbers (omega arith)
+    ∙ ap (λ (x : ℕ). stored 7 (set_numbers set_length x) numbers) c.from-w.ensures

@@ -14,5 +14,5 @@ slice_bounds-change-end c = omega (arith, least-few c.args.room c.rows_for-end.e
 pub slice_bounds-change-end-2 : goal.slice_bounds-change-end-2
 slice_bounds-change-end-2 c = sym (length-take-le _ _ (omega (arith, least-few c.args.room c.rows_for-end.ensures, c.requires)))
 
-pub returns : goal.returns
-returns c = filled-by _ _ _ _ _ c.requires c.rows_for-end.ensures c.change.ensures
+pub returns-clause-change : goal.returns-clause-change
+returns-clause-change c = filled-by _ _ _ _ _ c.requires c.rows_for-end.ensures c.change.ensures.value

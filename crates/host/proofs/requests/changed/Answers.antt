@@ -1,13 +1,22 @@
 -- `requests::changed` meets its contract. Assumes nothing.
-use native.Mathlib.Omega.{arith}
-use Rattle.rules.specs.Bytes.{Tables, tables}
-use Rattle.host.proofs.RequestLaws.{change-short, change-told}
+use Rattle.std.proofs.Common.{refl}
+use Rattle.host.specs.Answers.{result_of}
+use Rattle.host.proofs.Laws.{passed_on, head-short, head-long}
+use Rattle.host.proofs.RequestLaws.{change-short, change-told, told-refused, told-done}
 use Rattle.host.proofs.requests.changed.Goals as goal
 
-pub returns-then-head-lt-HEAD : goal.returns-then-head-lt-HEAD
-returns-then-head-lt-HEAD c = change-short _ _ _ _ _ c.if-head-lt-HEAD.true
+pub returns-in_err-head_in-clause-answer : goal.returns-in_err-head_in-clause-answer
+unfolding result_of
+returns-in_err-head_in-clause-answer c = let short = head-short _ c.head_in.ensures c.in_err-head_in.was in rw (passed_on c.from_residual.result c.from_residual.ensures.1, short.1) (change-short _ _ _ _ _ short.0)
 
-pub returns : goal.returns
-returns c =
-    let left : Tables = tables c.change-c.new.iv c.change-c.new.it c.change-c.new.ov c.change-c.new.ot c.change-c.new.rs in
-    change-told _ _ _ _ _ {u = left} (omega (arith, c.if-head-lt-HEAD.false)) c.head_of.ensures c.change-c.ensures c.told.ensures
+pub returns-in_err-a-clause-answer : goal.returns-in_err-a-clause-answer
+returns-in_err-a-clause-answer c =
+    let long = head-long _ c.head_in.ensures c.in_ok-head_in.was in
+    rw (passed_on c.from_residual-in_err-a.result c.from_residual-in_err-a.ensures.1)
+    (change-told _ _ _ _ _ long.0 long.1 c.change.ensures.value (told-refused _ _ c.in_err-a.was refl))
+
+pub put_head-requires : goal.put_head-requires
+put_head-requires c = (head-long _ c.head_in.ensures c.in_ok-head_in.was).0
+
+pub returns-clause-answer : goal.returns-clause-answer
+returns-clause-answer c = let long = head-long _ c.head_in.ensures c.in_ok-head_in.was in change-told _ _ _ _ _ long.0 long.1 c.change.ensures.value (told-done _ _ c.in_ok-a.was c.put_head.ensures)

@@ -3,16 +3,9 @@ use mathlib.Core.Path.{◌≡◌}
 use Prim.Native.Nat.{suc, ◌+◌, ◌*◌}
 use native.Mathlib.Numerals.{add-one}
 use native.Mathlib.Omega.{arith}
-use lib.ListN.{length-set}
 use Rattle.rows.proofs.Laws.{stored-sets}
 use Rattle.layer.specs.Cover.{order_of}
 use Rattle.layer.proofs.cover.put_order.Goals as goal
-
-pub bounds-orders-at-2 : goal.bounds-orders-at-2
-bounds-orders-at-2 c = simp length-set (omega arith)
-
-pub bounds-orders-at-3 : goal.bounds-orders-at-3
-bounds-orders-at-3 c = simp length-set (omega arith)
 
 pub returns : goal.returns
 returns c =

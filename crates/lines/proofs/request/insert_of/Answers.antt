@@ -1,5 +1,5 @@
 -- `lines::request::insert_of` meets its contract. Assumes nothing.
-use mathlib.Core.Path.{sym, ◌∙◌}
+use Rattle.std.proofs.Common.{sym, ◌∙◌}
 use Rattle.lines.specs.Request.{insert_of}
 use Rattle.lines.proofs.request.insert_of.Goals as goal
 
@@ -9,5 +9,4 @@ returns-then-repeats c = rw (sym c.repeats.ensures ∙ c.if-repeats.true)
 
 pub returns : goal.returns
 unfolding insert_of
-returns c =
-    rw (sym c.repeats.ensures ∙ c.if-repeats.false, c.users_of-a.ensures, c.above_of-b.ensures)
+returns c = rw (sym c.repeats.ensures ∙ c.if-repeats.false, c.number.ensures, c.users_of.ensures, c.above_of.ensures)

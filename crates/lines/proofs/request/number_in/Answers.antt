@@ -1,71 +1,43 @@
 -- `lines::request::number_in` meets its contract. The invariant: the bytes passed are digits, and n is their number. Assumes nothing.
-use Prim.Native.Nat.{◌-◌}
-use mathlib.Core.Path.{refl, sym, ap, ◌∙◌}
-use native.Mathlib.Omega.{arith}
-use lib.ListN.{get_or}
+use Rattle.std.proofs.Common.{◌≤◌, get_or, length, sym, ap, ◌∙◌, arith, Some}
 use Rattle.lines.specs.Request.{digit}
-use Rattle.lines.specs.declared.request.Decimal.TheVariants.{Is}
-use Rattle.lines.proofs.Passed.{every-hit, every-miss, every-end, value-next, value-end, shape-length, bad-shape, bad-digit, good, low, high, is_digit, more-digits, few-digits}
+use Rattle.lines.proofs.Passed.{every-hit, every-miss, every-end, value-next, value-end, shape-length, bad-shape, bad-digit, good, digit-small, more-digits, few-digits}
 use Rattle.lines.proofs.request.number_in.Goals as goal
-
-pub shaped-requires : goal.shaped-requires
-shaped-requires c = tt
 
 pub returns-then-not-shaped : goal.returns-then-not-shaped
 returns-then-not-shaped c = sym (bad-shape c.args.piece.now (sym c.shaped.ensures ∙ c.if-not-shaped.true))
 
-pub loop-i-init : goal.loop-i-init
-loop-i-init c = (omega arith, omega arith, refl, refl)
-
-pub bounds-piece-i : goal.bounds-piece-i
-bounds-piece-i c = omega arith
-
-pub returns-then-c-lt48 : goal.returns-then-c-lt48
-returns-then-c-lt48 c =
-    let l = c.loop-i in
+pub returns-then-not-is_ascii_digit : goal.returns-then-not-is_ascii_digit
+unfolding digit
+returns-then-not-is_ascii_digit c =
+    let l = c.loop-c in
     let p = c.args.piece.now in
-    sym (bad-digit p (sym c.shaped.ensures ∙ c.if-not-shaped.false) (l.invariant.2 ∙ every-miss p l.i digit (omega arith) (low _ c.if-c-lt48.true)))
-
-pub returns-then-c-gt57 : goal.returns-then-c-gt57
-returns-then-c-gt57 c =
-    let l = c.loop-i in
-    let p = c.args.piece.now in
-    sym (bad-digit p (sym c.shaped.ensures ∙ c.if-not-shaped.false) (l.invariant.2 ∙ every-miss p l.i digit (omega arith) (high _ c.if-c-gt57.true)))
+    sym (bad-digit p (sym c.shaped.ensures ∙ c.if-not-shaped.false) (l.invariant.1 ∙ every-miss p l.c-index digit (omega arith) (sym c.is_ascii_digit.ensures.value ∙ c.if-not-is_ascii_digit.true)))
 
 pub overflow_mul-n : goal.overflow_mul-n
 overflow_mul-n c =
-    let l = c.loop-i in
-    let p = c.args.piece.now in
-    omega (arith, few-digits l.n l.i l.invariant.1 (omega (arith, shape-length p (sym c.shaped.ensures ∙ c.if-not-shaped.false))))
-
-pub overflow_cast-n : goal.overflow_cast-n
-overflow_cast-n c = omega arith
+    let l = c.loop-c in
+    omega (arith, few-digits l.n l.c-index l.invariant.0 (omega (arith, shape-length c.args.piece.now (sym c.shaped.ensures ∙ c.if-not-shaped.false))))
 
 pub overflow_add-n : goal.overflow_add-n
 overflow_add-n c =
-    let l = c.loop-i in
-    let p = c.args.piece.now in
-    omega (arith, few-digits l.n l.i l.invariant.1 (omega (arith, shape-length p (sym c.shaped.ensures ∙ c.if-not-shaped.false))))
+    let l = c.loop-c in
+    omega (arith, few-digits l.n l.c-index l.invariant.0 (omega (arith, shape-length c.args.piece.now (sym c.shaped.ensures ∙ c.if-not-shaped.false))))
 
-pub overflow_add-i : goal.overflow_add-i
-overflow_add-i c = omega arith
-
-pub loop-i-smaller : goal.loop-i-smaller
-loop-i-smaller c = omega arith
-
-pub loop-i-preserved : goal.loop-i-preserved
-loop-i-preserved c =
-    let l = c.loop-i in
+pub loop-c-preserved : goal.loop-c-preserved
+unfolding digit
+loop-c-preserved c =
+    let l = c.loop-c in
     let p = c.args.piece.now in (
-      omega arith,
-      more-digits l.n l.i (get_or p l.i 0 - 48) l.invariant.1 (omega arith),
-      l.invariant.2 ∙ every-hit p l.i digit (omega arith) (is_digit _ c.if-c-lt48.false c.if-c-gt57.false),
-      l.invariant.3 ∙ value-next p l.i l.n (omega arith),
+      more-digits l.n l.c-index _ l.invariant.0 (omega (arith, c.from.ensures, digit-small (get_or p l.c-index 0) (sym c.is_ascii_digit.ensures.value ∙ c.if-not-is_ascii_digit.false))),
+      l.invariant.1 ∙ every-hit p l.c-index digit (omega arith) (sym c.is_ascii_digit.ensures.value ∙ c.if-not-is_ascii_digit.false),
+      rw c.from.ensures (l.invariant.2 ∙ value-next p l.c-index l.n (omega arith)),
     )
 
 pub returns : goal.returns
 returns c =
-    let l = c.loop-i in
+    let l = c.loop-c in
     let p = c.args.piece.now in
-    sym (good p (sym c.shaped.ensures ∙ c.if-not-shaped.false) (l.invariant.2 ∙ every-end p l.i digit (omega arith))
-    ∙ ap Is (l.invariant.3 ∙ value-end p l.i l.n (omega arith)))
+    let end : length p ≤ l.c-index = omega arith in
+    sym (good p (sym c.shaped.ensures ∙ c.if-not-shaped.false) (l.invariant.1 ∙ every-end p l.c-index digit end)
+    ∙ ap Some (l.invariant.2 ∙ value-end p l.c-index l.n end))

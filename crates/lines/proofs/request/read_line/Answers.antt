@@ -1,34 +1,38 @@
 -- `lines::request::read_line` meets its contract. Assumes nothing.
-use Prim.Native.Nat.{◌≤◌}
-use mathlib.Core.Path.{sym}
-use native.Mathlib.Omega.{arith}
-use lib.ListN.{length}
-use lib.Seq.{length-take-le}
-use Rattle.lines.proofs.Rows.{too-long, word-within, rest-starts, line-asks}
+use Rattle.std.proofs.Common.{ℕ, Option, take, sym, ap, ◌∙◌, arith}
+use Rattle.lines.specs.Request.{row_of}
+use Rattle.lines.specs.Reading.{got, kind_told}
+use Rattle.lines.proofs.Rows.{too-long, rest-starts, line-nothing, line-bad, line-good}
 use Rattle.lines.proofs.request.read_line.Goals as goal
 
 pub returns-then-line-gt512 : goal.returns-then-line-gt512
 returns-then-line-gt512 c = sym (too-long c.args.line.now (omega arith))
 
-pub slice_bounds-kind_of-end : goal.slice_bounds-kind_of-end
-slice_bounds-kind_of-end c =
-    let ends : c.piece_end-k.result ≤ length c.args.line.now = word-within c.args.line.now c.piece_end-k.result (omega arith) c.piece_end-k.ensures in
-    sym (length-take-le _ _ ends)
+pub returns-in_err-kind : goal.returns-in_err-kind
+returns-in_err-kind c =
+    let end = c.word_end-k in
+    c.from_residual.ensures
+    ∙ sym (line-nothing c.args.line.now end.result (omega arith) end.ensures.value (sym c.kind_of.ensures ∙ ap kind_told c.in_err-kind.was))
 
-pub slice_bounds-request-count : goal.slice_bounds-request-count
-slice_bounds-request-count c =
-    let ends : c.piece_end-k.result ≤ length c.args.line.now = word-within c.args.line.now c.piece_end-k.result (omega arith) c.piece_end-k.ensures in
-    ends
+pub read_numbers-requires-clause-rest : goal.read_numbers-requires-clause-rest
+read_numbers-requires-clause-rest c =
+    let end = c.word_end-k in
+    rest-starts c.args.line.now end.result (omega arith) end.ensures.value
 
-pub slice_bounds-request-start : goal.slice_bounds-request-start
-slice_bounds-request-start c =
-    let ends : c.piece_end-k.result ≤ length c.args.line.now = word-within c.args.line.now c.piece_end-k.result (omega arith) c.piece_end-k.ensures in
-    ends
-
-pub request-requires : goal.request-requires
-request-requires c =
-    rest-starts c.args.line.now c.piece_end-k.result c.if-line-gt512.false c.piece_end-k.ensures
+pub returns-in_err-count : goal.returns-in_err-count
+returns-in_err-count c =
+    let end = c.word_end-k in
+    let numbers = c.read_numbers in
+    c.from_residual-in_err-count.ensures
+    ∙ sym (line-bad c.args.line.now end.result (omega arith) end.ensures.value
+    (sym numbers.ensures.numbers_after ∙ ap (λ (r : Option ℕ). got r numbers.new.numbers) c.in_err-count.was))
 
 pub returns : goal.returns
 returns c =
-    line-asks c.args.line.now c.piece_end-k.result c.if-line-gt512.false c.piece_end-k.ensures c.kind_of-kind.ensures c.request.ensures
+    let end = c.word_end-k in
+    let numbers = c.read_numbers in
+    let read = take c.in_ok-count.count numbers.new.numbers in
+    c.row_of.ensures
+    ∙ sym (line-good c.args.line.now end.result (omega arith) end.ensures.value read
+    (sym numbers.ensures.numbers_after ∙ ap (λ (r : Option ℕ). got r numbers.new.numbers) c.in_ok-count.was)
+    ∙ ap (λ (k : ℕ). row_of k read) (sym c.kind_of.ensures ∙ ap kind_told c.in_ok-kind.was))

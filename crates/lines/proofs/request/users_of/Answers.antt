@@ -1,53 +1,25 @@
 -- `lines::request::users_of` meets its contract. The invariant: the users are those gathered and those still to come. Assumes nothing.
-use Prim.Native.Nat.{◌≤◌}
-use mathlib.Core.Path.{sym, ◌∙◌}
-use native.Mathlib.Omega.{arith}
-use lib.Bits.{or_zero_l, or_zero_r}
-use lib.ListN.{length, drop_of_length-le}
+use Rattle.std.proofs.Common.{◌≤◌, length, sym, ◌∙◌, arith}
+use lib.Bits.{or_zero_r}
+use lib.ListN.{drop_of_length-le}
 use Rattle.sets.specs.Words.{set_in}
 use Rattle.lines.specs.Request.{users}
 use Rattle.lines.proofs.Passed.{users-more, users-other}
 use Rattle.lines.proofs.request.users_of.Goals as goal
-use Rattle.lines.proofs.request.users_of.Goals.{then-n, else-n}
+use Rattle.lines.proofs.request.users_of.Goals.{then-n-lt-LIMIT, else-n-lt-LIMIT}
 
-pub loop-i-init : goal.loop-i-init
-loop-i-init c = (omega arith, rw c.empty-s.ensures (sym (or_zero_l _)))
-
-pub offset_bounds-numbers-i : goal.offset_bounds-numbers-i
-offset_bounds-numbers-i c = omega arith
-
-pub bounds-numbers-i : goal.bounds-numbers-i
-bounds-numbers-i c = omega arith
-
-pub overflow_cast-t-8 : goal.overflow_cast-t-8
-overflow_cast-t-8 c = omega arith
-
-pub overflow_cast-n : goal.overflow_cast-n
-overflow_cast-n c = omega arith
-
-pub with-s-requires : goal.with-s-requires
-with-s-requires c = omega arith
-
-pub overflow_add-i : goal.overflow_add-i
-overflow_add-i c = omega arith
-
-pub loop-i-smaller : goal.loop-i-smaller
-loop-i-smaller c = omega arith
-
-pub loop-i-preserved : goal.loop-i-preserved
-loop-i-preserved c =
-    let l = c.loop-i in (
-      omega arith,
-      l.invariant.1
-          ∙ elim c.if-n.branch [
-            | then-n w ↦ rw (w.s-is, w.with-s.ensures) (users-more c.args.numbers.now l.i (set_in l.s) (omega arith) w.if-n.true)
-            | else-n w ↦ rw w.s-is (users-other c.args.numbers.now l.i (set_in l.s) (omega arith) w.if-n.false)
-          ],
-    )
+pub loop-n-preserved : goal.loop-n-preserved
+loop-n-preserved c =
+    let l = c.loop-n in
+    l.invariant
+    ∙ elim c.if-n-lt-LIMIT.branch [
+      | then-n-lt-LIMIT w ↦ rw (w.users-is, w.with-users.ensures) (users-more c.args.numbers.now l.n-index (set_in l.users) (omega arith) w.if-n-lt-LIMIT.true)
+      | else-n-lt-LIMIT w ↦ rw w.users-is (users-other c.args.numbers.now l.n-index (set_in l.users) (omega arith) w.if-n-lt-LIMIT.false)
+    ]
 
 pub returns : goal.returns
 unfolding users
 returns c =
-    let l = c.loop-i in
-    let n : length c.args.numbers.now ≤ l.i = omega arith in
-    c.word.ensures ∙ sym (l.invariant.1 ∙ rw (drop_of_length-le c.args.numbers.now n) (or_zero_r (set_in l.s)))
+    let l = c.loop-n in
+    let n : length c.args.numbers.now ≤ l.n-index = omega arith in
+    c.from.ensures ∙ sym (l.invariant ∙ rw (drop_of_length-le c.args.numbers.now n) (or_zero_r (set_in l.users)))

@@ -1,12 +1,12 @@
 -- `policy::serve::answer_one` meets its contract: the answer of what is asked. Assumes nothing.
-use Rattle.policy.proofs.ServeCalls.{one-changed, one-opened, one-refused}
+use Rattle.std.proofs.Common.{rules}
+use Rattle.rules.specs.Calls.{one, change_one}
+use Rattle.policy.proofs.MarkedLaws.{one-changed}
 use Rattle.policy.proofs.serve.answer_one.Goals as goal
 
-pub returns-in-Change : goal.returns-in-Change
-returns-in-Change c = one-changed _ _ _ c.in-Change.is c.carry_out.ensures c.changed.ensures
+pub returns-in-Some-Change-clause-value : goal.returns-in-Some-Change-clause-value
+returns-in-Some-Change-clause-value c = one-changed _ _ _ (search rules) c.carry_out.ensures.value
 
-pub returns-in-Open : goal.returns-in-Open
-returns-in-Open c = one-opened _ _ _ c.in-Open.is c.open_one.ensures
-
-pub returns-in-Nothing : goal.returns-in-Nothing
-returns-in-Nothing c = one-refused _ _ _ c.in-Nothing.is c.refused.ensures
+pub returns-in-None-clause-value : goal.returns-in-None-clause-value
+unfolding one change_one
+returns-in-None-clause-value c = rw c.in-None.is

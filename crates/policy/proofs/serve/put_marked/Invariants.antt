@@ -1,14 +1,7 @@
-use mathlib.Core.Path.{◌≡◌}
-use Prim.Native.Nat.{◌*◌, ◌-◌, ◌≤◌}
-use lib.ListN.{length, take}
-use Rattle.rows.specs.Number.{stored}
-use Rattle.policy.specs.Serve.{marked}
+use Rattle.rows.proofs.Fill.{Filled}
+use Rattle.rules.specs.Kinds.{order_number}
+use Rattle.policy.specs.Serve.{marked_row}
 use Rattle.policy.proofs.serve.put_marked.Given as goal
 
 abbrev pub invariant-loop-i : goal.invariant-loop-i
-invariant-loop-i l =
-    (l.i ≤ length l.list) × (l.orders ≡ stored (l.row * 3) (marked l.mark (take l.i l.list)) l.initial.orders)
-
-abbrev pub decreases-loop-i : goal.decreases-loop-i
-decreases-loop-i l =
-    length l.list - l.i
+invariant-loop-i l = Filled 3 (marked_row (order_number l.mark)) l.row l.list l.initial.orders l.i l.orders

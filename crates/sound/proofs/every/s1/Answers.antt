@@ -1,72 +1,63 @@
--- `every::s1` meets its contract: the leavers, and the searches in the order of the bytes.
+-- `sound::every::s1` meets its contract: the leavers, and the searches in the order of the bytes.
 -- Assumes nothing.
-use mathlib.Core.Path.{refl, ap}
-use Rattle.layer.specs.declared.walk.Shape.{Shape}
-use Rattle.sound.proofs.Spots.{alone-on, alone-stop, search-on, search-stop, search-last}
+use Rattle.std.proofs.Common.{rules, ◌≡◌, ◌∙◌, ap, not, Err, refl}
+use Rattle.rules.specs.Bytes.{book_in, tables_of}
+use Rattle.layer.specs.Laid.{layer_of, inner_shape, outer_shape}
+use Rattle.sound.proofs.Spots.{alone-stop, alone-on, search-on, search-stop, search-last}
 use Rattle.sound.proofs.RulePlaces.{sets-told, tokens-told, plain-told, placed-told, s1-rest}
-use Rattle.sound.proofs.Required.{counts-within, inner-held, outer-held}
-use mathlib.Core.Bool.{not}
+use Rattle.sound.proofs.Required.{counts-within}
 use Rattle.sound.proofs.every.s1.Goals as goal
 
 pub below-requires : goal.below-requires
 below-requires c = (counts-within _ c.requires.h_value).users≤
 
 pub returns-then-not-below : goal.returns-then-not-below
-returns-then-not-below c = alone-stop (s1-rest _ _ refl refl) c.below.ensures (ap not c.if-not-below.true)
+returns-then-not-below c = alone-stop (s1-rest _ _) c.below.ensures (ap not c.if-not-below.true)
 
 pub strange_set-requires : goal.strange_set-requires
-strange_set-requires c =
-    ((inner-held _ _ c.requires.room c.inner_shape-i.ensures).sets, (counts-within _ c.requires.h_value).users≤)
-
-pub returns-in-By : goal.returns-in-By
-returns-in-By c =
-    let ie = c.inner_shape-i.ensures in
-    let oe = c.outer_shape-o.ensures in
-    let rest = alone-on (s1-rest _ _ ie oe) c.below.ensures (ap not c.if-not-below.false) in
-    search-stop rest (sets-told _ _ _ 0 c.row-a.ensures _ c.strange_set.ensures) c.in-By.is
-
-pub strange_token-requires : goal.strange_token-requires
-strange_token-requires c =
-    let h = inner-held _ _ c.requires.room c.inner_shape-i.ensures in
-    (h.low, h.high, h.rows)
-
-pub returns-in-By-b : goal.returns-in-By-b
-returns-in-By-b c =
-    let ie = c.inner_shape-i.ensures in
-    let oe = c.outer_shape-o.ensures in
-    let rest = alone-on (s1-rest _ _ ie oe) c.below.ensures (ap not c.if-not-below.false) in
-    search-stop (search-on rest (sets-told _ _ _ 0 c.row-a.ensures _ c.strange_set.ensures) c.in-Nowhere.is) (tokens-told _ _ _ 1 c.row-b.ensures c.strange_token.ensures) c.in-By-b.is
+strange_set-requires c = (c.requires.room.inner_vertices, (counts-within _ c.requires.h_value).users≤)
 
 pub strange_set-requires-2 : goal.strange_set-requires-2
-strange_set-requires-2 c =
-    ((outer-held _ _ c.requires.room c.outer_shape-o.ensures).sets, (counts-within _ c.requires.h_value).users≤)
-
-pub returns-in-By-c : goal.returns-in-By-c
-returns-in-By-c c =
-    let ie = c.inner_shape-i.ensures in
-    let oe = c.outer_shape-o.ensures in
-    let rest = alone-on (s1-rest _ _ ie oe) c.below.ensures (ap not c.if-not-below.false) in
-    search-stop (search-on (search-on rest (sets-told _ _ _ 0 c.row-a.ensures _ c.strange_set.ensures) c.in-Nowhere.is) (tokens-told _ _ _ 1 c.row-b.ensures c.strange_token.ensures) c.in-Nowhere-b.is) (sets-told _ _ _ 2 c.row-c.ensures _ c.strange_set-2.ensures) c.in-By-c.is
-
-pub strange_token-requires-2 : goal.strange_token-requires-2
-strange_token-requires-2 c =
-    let h = outer-held _ _ c.requires.room c.outer_shape-o.ensures in
-    (h.low, h.high, h.rows)
-
-pub returns-in-By-d : goal.returns-in-By-d
-returns-in-By-d c =
-    let ie = c.inner_shape-i.ensures in
-    let oe = c.outer_shape-o.ensures in
-    let rest = alone-on (s1-rest _ _ ie oe) c.below.ensures (ap not c.if-not-below.false) in
-    search-stop (search-on (search-on (search-on rest (sets-told _ _ _ 0 c.row-a.ensures _ c.strange_set.ensures) c.in-Nowhere.is) (tokens-told _ _ _ 1 c.row-b.ensures c.strange_token.ensures) c.in-Nowhere-b.is) (sets-told _ _ _ 2 c.row-c.ensures _ c.strange_set-2.ensures) c.in-Nowhere-c.is) (plain-told _ _ _ 3 c.row-d.ensures (ap (λ (l : Shape). l.width) oe) c.strange_token-2.ensures) c.in-By-d.is
+strange_set-requires-2 c = (c.requires.room.outer_vertices, (counts-within _ c.requires.h_value).users≤)
 
 pub misplaced-requires : goal.misplaced-requires
-misplaced-requires c =
-    (c.requires.room.resources, (counts-within _ c.requires.h_value).users≤)
+misplaced-requires c = (c.requires.room.resources, (counts-within _ c.requires.h_value).users≤)
+
+pub returns-in_err-row : goal.returns-in_err-row
+unfolding book_in layer_of
+returns-in_err-row c =
+    let h = c.args.h in
+    let t = tables_of c.args.t.now in
+    let k : c.from_residual.result ≡ Err c.in_err-row.field-0.0 = search rules in
+    k ∙ search-stop (alone-on (s1-rest h t) c.below.ensures (ap not c.if-not-below.false)) (sets-told (inner_shape h) t.inner_tokens t.inner_vertices 0 c.row.ensures _ c.strange_set.ensures) c.in_err-row.was
+
+pub returns-in_err-row-2 : goal.returns-in_err-row-2
+unfolding book_in layer_of
+returns-in_err-row-2 c =
+    let h = c.args.h in
+    let t = tables_of c.args.t.now in
+    let k : c.from_residual-in_err-row-2.result ≡ Err c.in_err-row-2.field-0.0 = search rules in
+    k ∙ search-stop (search-on (alone-on (s1-rest h t) c.below.ensures (ap not c.if-not-below.false)) (sets-told (inner_shape h) t.inner_tokens t.inner_vertices 0 c.row.ensures _ c.strange_set.ensures) c.in_ok-row.was) (tokens-told (inner_shape h) t.inner_tokens t.inner_vertices 1 c.row-2.ensures c.strange_token.ensures) c.in_err-row-2.was
+
+pub returns-in_err-row-3 : goal.returns-in_err-row-3
+unfolding book_in layer_of
+returns-in_err-row-3 c =
+    let h = c.args.h in
+    let t = tables_of c.args.t.now in
+    let k : c.from_residual-in_err-row-3.result ≡ Err c.in_err-row-3.field-0.0 = search rules in
+    k ∙ search-stop (search-on (search-on (alone-on (s1-rest h t) c.below.ensures (ap not c.if-not-below.false)) (sets-told (inner_shape h) t.inner_tokens t.inner_vertices 0 c.row.ensures _ c.strange_set.ensures) c.in_ok-row.was) (tokens-told (inner_shape h) t.inner_tokens t.inner_vertices 1 c.row-2.ensures c.strange_token.ensures) c.in_ok-row-2.was) (sets-told (outer_shape h) t.outer_tokens t.outer_vertices 2 c.row-3.ensures _ c.strange_set-2.ensures) c.in_err-row-3.was
+
+pub returns-in_err-row-4 : goal.returns-in_err-row-4
+unfolding book_in layer_of
+returns-in_err-row-4 c =
+    let h = c.args.h in
+    let t = tables_of c.args.t.now in
+    let k : c.from_residual-in_err-row-4.result ≡ Err c.in_err-row-4.field-0.0 = search rules in
+    k ∙ search-stop (search-on (search-on (search-on (alone-on (s1-rest h t) c.below.ensures (ap not c.if-not-below.false)) (sets-told (inner_shape h) t.inner_tokens t.inner_vertices 0 c.row.ensures _ c.strange_set.ensures) c.in_ok-row.was) (tokens-told (inner_shape h) t.inner_tokens t.inner_vertices 1 c.row-2.ensures c.strange_token.ensures) c.in_ok-row-2.was) (sets-told (outer_shape h) t.outer_tokens t.outer_vertices 2 c.row-3.ensures _ c.strange_set-2.ensures) c.in_ok-row-3.was) (plain-told (outer_shape h) t.outer_tokens t.outer_vertices 3 c.row-4.ensures refl c.strange_token-2.ensures) c.in_err-row-4.was
 
 pub returns : goal.returns
+unfolding book_in layer_of
 returns c =
-    let ie = c.inner_shape-i.ensures in
-    let oe = c.outer_shape-o.ensures in
-    let rest = alone-on (s1-rest _ _ ie oe) c.below.ensures (ap not c.if-not-below.false) in
-    search-last (search-on (search-on (search-on (search-on rest (sets-told _ _ _ 0 c.row-a.ensures _ c.strange_set.ensures) c.in-Nowhere.is) (tokens-told _ _ _ 1 c.row-b.ensures c.strange_token.ensures) c.in-Nowhere-b.is) (sets-told _ _ _ 2 c.row-c.ensures _ c.strange_set-2.ensures) c.in-Nowhere-c.is) (plain-told _ _ _ 3 c.row-d.ensures (ap (λ (l : Shape). l.width) oe) c.strange_token-2.ensures) c.in-Nowhere-d.is) (placed-told _ _ ie oe c.row.ensures c.misplaced.ensures)
+    let h = c.args.h in
+    let t = tables_of c.args.t.now in
+    search-last (search-on (search-on (search-on (search-on (alone-on (s1-rest h t) c.below.ensures (ap not c.if-not-below.false)) (sets-told (inner_shape h) t.inner_tokens t.inner_vertices 0 c.row.ensures _ c.strange_set.ensures) c.in_ok-row.was) (tokens-told (inner_shape h) t.inner_tokens t.inner_vertices 1 c.row-2.ensures c.strange_token.ensures) c.in_ok-row-2.was) (sets-told (outer_shape h) t.outer_tokens t.outer_vertices 2 c.row-3.ensures _ c.strange_set-2.ensures) c.in_ok-row-3.was) (plain-told (outer_shape h) t.outer_tokens t.outer_vertices 3 c.row-4.ensures refl c.strange_token-2.ensures) c.in_ok-row-4.was) (placed-told h t c.row-5.ensures c.misplaced.ensures)

@@ -1,8 +1,6 @@
--- `sound::layers::equal_token` meets its contract. The loop's invariant: no two of the tokens passed have the same ends, and the marks of their ends are
--- set. Assumes nothing.
-use Prim.Native.Nat.{◌+◌, ◌*◌, ◌<◌}
-use mathlib.Core.Path.{refl}
-use native.Mathlib.Omega.{arith}
+-- `sound::layers::equal_token` meets its contract. The loop's invariant: no two of the tokens passed have the same ends, and the marks of their ends are set.
+-- Assumes nothing.
+use Rattle.std.proofs.Common.{refl, arith, ◌*◌, ◌+◌, ◌<◌}
 use Rattle.layer.specs.Laid.{max_vertices}
 use Rattle.layer.proofs.Read.{length-tokens}
 use Rattle.layer.proofs.Search.{row-over}
@@ -13,26 +11,11 @@ use Rattle.sound.proofs.layers.equal_token.Goals as goal
 pub loop-i-init : goal.loop-i-init
 loop-i-init c = apart_none _ _
 
-pub token_in-t-requires : goal.token_in-t-requires
-token_in-t-requires c = omega arith
-
-pub overflow_cast-t : goal.overflow_cast-t
-overflow_cast-t c = omega arith
-
-pub overflow_mul-t : goal.overflow_mul-t
-overflow_mul-t c = omega arith
-
-pub overflow_cast-t-in-loop-i : goal.overflow_cast-t-in-loop-i
-overflow_cast-t-in-loop-i c = omega arith
-
-pub overflow_add-t : goal.overflow_add-t
-overflow_add-t c = omega arith
-
 pub mark-requires : goal.mark-requires
 mark-requires c =
     let ends : (c.token_in-t.result.from < max_vertices) × (c.token_in-t.result.to < max_vertices) = c.requires.ends _ (row-mem _ _ (length-tokens _ _ _) c.loop-i-test.true c.token_in-t.ensures) in
-    let m = ends in
-    omega (arith, m.0, m.1, c.loop-i.invariant.1.all)
+    let below : c.token_in-t.result.to * max_vertices + c.token_in-t.result.from < 4096 * 64 = omega (arith, ends.0, ends.1) in
+    omega (arith, below, c.loop-i.invariant.1.all)
 
 pub returns-then-mark : goal.returns-then-mark
 returns-then-mark c =
@@ -40,12 +23,6 @@ returns-then-mark c =
     let below : c.token_in-t.result.to * max_vertices + c.token_in-t.result.from < 4096 * 64 = omega (arith, ends.0, ends.1) in
     apart-here _ _ c.requires.ends (length-tokens _ _ _) c.loop-i.invariant c.loop-i-test.true c.token_in-t.ensures refl below
     c.mark.ensures.value c.if-mark.true
-
-pub overflow_add-i : goal.overflow_add-i
-overflow_add-i c = omega arith
-
-pub loop-i-smaller : goal.loop-i-smaller
-loop-i-smaller c = omega arith
 
 pub loop-i-preserved : goal.loop-i-preserved
 loop-i-preserved c =

@@ -1,63 +1,26 @@
--- `sound::layers::ununited` meets its contract. The loop's invariant: the vertices before v keep S5. Assumes nothing.
-use Prim.Native.Nat.{◌<◌}
-use mathlib.Core.Path.{◌≡◌, ◌∙◌}
-use mathlib.Core.Bool.{not}
-use native.Mathlib.Omega.{arith}
+-- `sound::layers::ununited` meets its contract.
+-- Assumes nothing.
+use Rattle.std.proofs.Common.{rules, ◌≡◌, ◌∙◌, ap, not, arith}
+use Rattle.rules.specs.Lists.{numbered}
 use Rattle.rules.specs.Layer.{set_of}
 use Rattle.rules.specs.Sound.{united_vertex}
-use Rattle.layer.specs.Laid.{layer_of, max_vertices}
-use Rattle.theorems.proofs.ListLaws.{length-numbered}
-use Rattle.layer.proofs.Search.{row_here, row_on, row-over}
+use Rattle.rules.specs.Bytes.{sets_in}
+use Rattle.layer.specs.Laid.{layer_of, sources_into}
+use Rattle.layer.specs.Lent.{layer_in}
 use Rattle.layer.proofs.Read.{length-sets}
-use Rattle.sound.proofs.United.{vertex-at, united-row}
-use mathlib.Core.Path.{ap}
+use Rattle.theorems.proofs.ListLaws.{length-numbered}
+use Rattle.layer.proofs.Search.{placed_first}
+use Rattle.sound.specs.Faults.{united_by}
+use Rattle.sound.proofs.United.{vertex-at}
 use Rattle.sound.proofs.layers.ununited.Goals as goal
 
-pub unions-all-requires : goal.unions-all-requires
-unions-all-requires c =
-    record {
-      laid = c.requires.laid;
-      vertices_le_max_vertices = c.requires.vertices_le_max_vertices;
-    }
-
-pub loop-v-init : goal.loop-v-init
-loop-v-init c = omega arith
-
-pub offset_bounds-all-v : goal.offset_bounds-all-v
-offset_bounds-all-v c = omega arith
-
-pub bounds-all-v : goal.bounds-all-v
-bounds-all-v c =
-    let cell : c.loop-v.v < max_vertices = omega arith in
-    cell
-
-pub set_of-requires : goal.set_of-requires
-set_of-requires c = (c.requires.laid.sets, c.loop-v-test.true)
-
-pub returns-then-not-united : goal.returns-then-not-united
-unfolding layer_of set_of
-returns-then-not-united c =
-    let cell : c.loop-v.v < max_vertices = omega arith in
-    let answered : let a = c.args in
-    let L = layer_of a.l a.tokens.now a.vertices.now in
-    not c.united.result ≡ not (united_vertex L (c.loop-v.v, set_of L c.loop-v.v)) = united-row _ _ c.united.ensures c.set_of.ensures (c.unions-all.ensures _ cell) in
-    row_here _ _ _ _ c.loop-v.invariant c.loop-v-test.true (vertex-at _ _ (rw length-sets c.loop-v-test.true)) answered (ap not c.if-not-united.true)
-
-pub overflow_add-v : goal.overflow_add-v
-overflow_add-v c = omega arith
-
-pub loop-v-smaller : goal.loop-v-smaller
-loop-v-smaller c = omega arith
-
-pub loop-v-preserved : goal.loop-v-preserved
-unfolding layer_of set_of
-loop-v-preserved c =
-    let cell : c.loop-v.v < max_vertices = omega arith in
-    let answered : let a = c.args in
-    let L = layer_of a.l a.tokens.now a.vertices.now in
-    not c.united.result ≡ not (united_vertex L (c.loop-v.v, set_of L c.loop-v.v)) = united-row _ _ c.united.ensures c.set_of.ensures (c.unions-all.ensures _ cell) in
-    row_on _ _ _ _ c.loop-v.invariant c.loop-v-test.true (vertex-at _ _ (rw length-sets c.loop-v-test.true)) answered
-    (length-numbered _ _ ∙ length-sets _ _) (ap not c.if-not-united.false)
-
 pub returns : goal.returns
-returns c = row-over _ _ _ c.loop-v.invariant c.loop-v-test.false
+unfolding layer_of united_vertex set_of
+returns c =
+    let l = c.args.l.now in
+    let sets = sets_in l.shape.vertices l.vertices.now in
+    placed_first _ _ (numbered 0 sets) (0, 0) (length-numbered 0 sets ∙ length-sets l.shape.vertices l.vertices.now) c.position.ensures.ran (λ i b q k. search rules)
+    (λ i b q m k.
+    let all = c.unions-all.ensures i (omega arith) in
+    let told : b ≡ not (united_by (set_of (layer_in l) i) (sources_into (layer_in l) 0 i)) = search (rules, all) in
+    told ∙ ap (λ v. not (united_vertex (layer_in l) v)) (vertex-at sets i (rw length-sets m)))

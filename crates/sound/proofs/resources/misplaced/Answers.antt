@@ -1,34 +1,14 @@
--- `sound::resources::misplaced` meets its contract. The loop's invariant: the resources before i are placed. Assumes nothing.
-use mathlib.Core.Path.{ap}
-use mathlib.Core.Bool.{not}
-use native.Mathlib.Omega.{arith}
-use Rattle.layer.proofs.Search.{row_here, row_on, row-over}
+-- `sound::resources::misplaced` meets its contract.
+-- Assumes nothing.
+use Rattle.std.proofs.Common.{rules, tests}
+use Rattle.rules.specs.Bytes.{resources_in}
+use Rattle.layer.specs.Laid.{no_resource}
 use Rattle.layer.proofs.Read.{length-resources}
+use Rattle.layer.proofs.Search.{placed_first}
 use Rattle.sound.proofs.resources.misplaced.Goals as goal
 
-pub loop-i-init : goal.loop-i-init
-loop-i-init c = omega arith
-
-pub resource_in-requires : goal.resource_in-requires
-resource_in-requires c = omega arith
-
-pub placed-requires : goal.placed-requires
-placed-requires c = omega arith
-
-pub returns-then-not-placed : goal.returns-then-not-placed
-returns-then-not-placed c =
-    row_here _ _ _ _ c.loop-i.invariant c.loop-i-test.true c.resource_in.ensures (ap not c.placed.ensures) (ap not c.if-not-placed.true)
-
-pub overflow_add-i : goal.overflow_add-i
-overflow_add-i c = omega arith
-
-pub loop-i-smaller : goal.loop-i-smaller
-loop-i-smaller c = omega arith
-
-pub loop-i-preserved : goal.loop-i-preserved
-loop-i-preserved c =
-    row_on _ _ _ _ c.loop-i.invariant c.loop-i-test.true c.resource_in.ensures (ap not c.placed.ensures)
-    (length-resources _ _) (ap not c.if-not-placed.false)
-
 pub returns : goal.returns
-returns c = row-over _ _ _ c.loop-i.invariant c.loop-i-test.false
+returns c =
+    let n = c.args.n in
+    let xs = resources_in n c.args.resources.now in
+    placed_first _ _ xs no_resource (length-resources n c.args.resources.now) c.position.ensures.ran (λ i b q k. search rules) (λ i b q l k. search (rules, tests))

@@ -1,29 +1,42 @@
--- `sound::resources::placed` meets its contract: one test after the other. Assumes nothing.
-use mathlib.Core.Path.{sym, ◌∙◌}
-use mathlib.Core.Bool.{and-true, and-false}
-use borrow.Author.Tests.{eq-eqb, ne_eqb, lt-ltb, le-ltb}
+-- `sound::resources::placed` meets its contract: one test after the other.
+-- Assumes nothing.
+use Rattle.std.proofs.Common.{◌≡◌, ◌&&◌, ◌||◌, ◌∙◌, not}
+use lib.Dec.{ltb}
+use borrow.Author.Tests.{eq-eqb, ne_eqb}
 use Rattle.rules.specs.Book.{has_outer}
-use Rattle.rules.specs.Sound.{joined_set}
+use Rattle.layer.specs.Laid.{resource_is}
+use Rattle.sound.proofs.Verdicts.{first-yes, first-no}
+use Rattle.sound.proofs.resources.placed.Goals.{then-below, else-below, then-x-inner+then-x-eq-NONE, then-x-inner+else-x-eq-NONE, else-x-inner}
 use Rattle.sound.proofs.resources.placed.Goals as goal
 
-pub returns-then-not-below : goal.returns-then-not-below
-unfolding joined_set
-returns-then-not-below c = rw (sym c.below.ensures ∙ c.if-not-below.true)
+pub returns-then-x-outer : goal.returns-then-x-outer
+unfolding has_outer
+returns-then-x-outer c =
+    let x = resource_is c.args.x in
+    let there = not (has_outer x) || ltb x.outer c.args.outer in
+    let two : c.if-below.value ≡ (c.below.result && ltb x.inner c.args.inner) = elim c.if-below.branch [
+      | then-below w ↦ first-yes w.if-below.true w.value-is
+      | else-below w ↦ first-no _ w.if-below.false w.value-is
+    ] in
+    let three : c.if-x-inner.value ≡ (c.if-below.value && there) = elim c.if-x-inner.branch [
+      | then-x-inner+then-x-eq-NONE w ↦ first-yes w.if-x-inner.true (w.value-is ∙ rw (eq-eqb _ _ w.if-x-eq-NONE.true))
+      | then-x-inner+else-x-eq-NONE w ↦ first-yes w.if-x-inner.true (w.value-is ∙ rw (ne_eqb _ _ w.if-x-eq-NONE.false))
+      | else-x-inner w ↦ first-no _ w.if-x-inner.false w.value-is
+    ] in
+    rw (← c.below.ensures, ← c.apart.ensures, ← two, ← three, c.if-x-outer.true)
 
-pub returns-then-not-apart : goal.returns-then-not-apart
-returns-then-not-apart c = rw (sym c.apart.ensures ∙ c.if-not-apart.true, and-false)
-
-pub returns-then-x-inner : goal.returns-then-x-inner
-unfolding joined_set
-returns-then-x-inner c =
-    rw (sym c.below.ensures ∙ c.if-not-below.false, le-ltb _ _ c.if-x-inner.true)
-
-pub returns-then-x-eq-NONE : goal.returns-then-x-eq-NONE
-unfolding joined_set has_outer
-returns-then-x-eq-NONE c =
-    rw (sym c.below.ensures ∙ c.if-not-below.false, lt-ltb _ _ c.if-x-inner.false, eq-eqb _ _ c.if-x-eq-NONE.true, sym c.apart.ensures ∙ c.if-not-apart.false)
-
-pub returns-else-x-eq-NONE : goal.returns-else-x-eq-NONE
-unfolding joined_set has_outer
-returns-else-x-eq-NONE c =
-    rw (sym c.below.ensures ∙ c.if-not-below.false, lt-ltb _ _ c.if-x-inner.false, ne_eqb _ _ c.if-x-eq-NONE.false, sym c.apart.ensures ∙ c.if-not-apart.false, and-true)
+pub returns-else-x-outer : goal.returns-else-x-outer
+unfolding has_outer
+returns-else-x-outer c =
+    let x = resource_is c.args.x in
+    let there = not (has_outer x) || ltb x.outer c.args.outer in
+    let two : c.if-below.value ≡ (c.below.result && ltb x.inner c.args.inner) = elim c.if-below.branch [
+      | then-below w ↦ first-yes w.if-below.true w.value-is
+      | else-below w ↦ first-no _ w.if-below.false w.value-is
+    ] in
+    let three : c.if-x-inner.value ≡ (c.if-below.value && there) = elim c.if-x-inner.branch [
+      | then-x-inner+then-x-eq-NONE w ↦ first-yes w.if-x-inner.true (w.value-is ∙ rw (eq-eqb _ _ w.if-x-eq-NONE.true))
+      | then-x-inner+else-x-eq-NONE w ↦ first-yes w.if-x-inner.true (w.value-is ∙ rw (ne_eqb _ _ w.if-x-eq-NONE.false))
+      | else-x-inner w ↦ first-no _ w.if-x-inner.false w.value-is
+    ] in
+    rw (← c.below.ensures, ← two, ← three, c.if-x-outer.false)

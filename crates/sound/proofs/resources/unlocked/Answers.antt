@@ -1,88 +1,24 @@
--- `sound::resources::unlocked` meets its contract. The loop's invariant: the resources before i keep S8. Assumes nothing.
-use Prim.Native.Nat.{◌<◌}
-use mathlib.Core.Path.{◌≡◌, ap}
-use mathlib.Core.Bool.{not}
-use native.Mathlib.Omega.{arith}
-use Rattle.rules.specs.Layer.{set_of}
-use Rattle.rules.specs.Holders.{by_token, holders}
-use Rattle.rules.specs.Bytes.{sets_in}
-use Rattle.layer.specs.Laid.{layer_of, max_vertices, resource_is}
-use Rattle.layer.proofs.Search.{row_here, row_on, row-over}
+-- `sound::resources::unlocked` meets its contract.
+-- Assumes nothing.
+use Rattle.std.proofs.Common.{rules, tests}
+use Rattle.rules.specs.Bytes.{resources_in}
+use Rattle.layer.specs.Laid.{no_resource}
 use Rattle.layer.proofs.Read.{length-resources}
-use Rattle.sound.specs.Faults.{locked_by}
-use Rattle.sound.proofs.Reading.{row-mem, by-holders}
+use Rattle.layer.proofs.Search.{placed_first}
+use Rattle.std.proofs.lemmas.Iterator.{serves_from_Range}
+use Rattle.sound.proofs.Reading.{inner-at, outer-at}
 use Rattle.sound.proofs.resources.unlocked.Goals as goal
 
-pub unions-token-requires : goal.unions-token-requires
-unions-token-requires c =
-    record {
-      laid = c.requires.laid;
-      vertices_le_max_vertices = c.requires.vertices_le_max_vertices;
-    }
-
-pub loop-i-init : goal.loop-i-init
-loop-i-init c = omega arith
-
-pub resource_in-x-requires : goal.resource_in-x-requires
-resource_in-x-requires c = omega arith
-
-pub overflow_cast-v : goal.overflow_cast-v
-overflow_cast-v c = omega arith
-
-pub offset_bounds-token-v : goal.offset_bounds-token-v
-offset_bounds-token-v c =
-    let vertex : c.resource_in-x.result.inner.0 < c.args.l.vertices = c.requires.bytes_in_bounds.1 _ (row-mem _ _ (length-resources _ _) c.loop-i-test.true c.resource_in-x.ensures) in
-    let cell : c.resource_in-x.result.inner.0 < max_vertices = omega (arith, vertex, c.requires.vertices_le_max_vertices) in
-    omega (arith, cell)
-
-pub bounds-token-v : goal.bounds-token-v
-bounds-token-v c =
-    let vertex : c.resource_in-x.result.inner.0 < c.args.l.vertices = c.requires.bytes_in_bounds.1 _ (row-mem _ _ (length-resources _ _) c.loop-i-test.true c.resource_in-x.ensures) in
-    let cell : c.resource_in-x.result.inner.0 < max_vertices = omega (arith, vertex, c.requires.vertices_le_max_vertices) in
-    cell
-
-pub set_of-requires : goal.set_of-requires
-set_of-requires c =
-    let vertex : c.resource_in-x.result.inner.0 < c.args.l.vertices = c.requires.bytes_in_bounds.1 _ (row-mem _ _ (length-resources _ _) c.loop-i-test.true c.resource_in-x.ensures) in
-    (c.requires.laid.sets, vertex)
-
-pub union-holders-requires : goal.union-holders-requires
-union-holders-requires c = tt
-
-pub locked-requires : goal.locked-requires
-locked-requires c =
-    (c.requires.bytes_in_bounds_2, c.requires.bytes_in_bounds.2 _ (row-mem _ _ (length-resources _ _) c.loop-i-test.true c.resource_in-x.ensures))
-
-pub returns-then-not-locked : goal.returns-then-not-locked
-unfolding layer_of set_of by_token
-returns-then-not-locked c =
-    let vertex : c.resource_in-x.result.inner.0 < c.args.l.vertices = c.requires.bytes_in_bounds.1 _ (row-mem _ _ (length-resources _ _) c.loop-i-test.true c.resource_in-x.ensures) in
-    let cell : c.resource_in-x.result.inner.0 < max_vertices = omega (arith, vertex, c.requires.vertices_le_max_vertices) in
-    let answered : let a = c.args in
-    let x = resource_is c.resource_in-x.result in
-    c.locked.result ≡ locked_by a.mode (holders (layer_of a.l a.tokens.now a.vertices.now) x.inner) (sets_in a.m a.outer.now) x = let a = c.args in
-    by-holders (λ s. locked_by a.mode s (sets_in a.m a.outer.now) (resource_is c.resource_in-x.result)) _ _ c.locked.ensures
-    c.set_of.ensures (c.unions-token.ensures _ cell) c.union-holders.ensures in
-    row_here _ _ _ _ c.loop-i.invariant c.loop-i-test.true c.resource_in-x.ensures (ap not answered) (ap not c.if-not-locked.true)
-
-pub overflow_add-i : goal.overflow_add-i
-overflow_add-i c = omega arith
-
-pub loop-i-smaller : goal.loop-i-smaller
-loop-i-smaller c = omega arith
-
-pub loop-i-preserved : goal.loop-i-preserved
-unfolding layer_of set_of by_token
-loop-i-preserved c =
-    let vertex : c.resource_in-x.result.inner.0 < c.args.l.vertices = c.requires.bytes_in_bounds.1 _ (row-mem _ _ (length-resources _ _) c.loop-i-test.true c.resource_in-x.ensures) in
-    let cell : c.resource_in-x.result.inner.0 < max_vertices = omega (arith, vertex, c.requires.vertices_le_max_vertices) in
-    let answered : let a = c.args in
-    let x = resource_is c.resource_in-x.result in
-    c.locked.result ≡ locked_by a.mode (holders (layer_of a.l a.tokens.now a.vertices.now) x.inner) (sets_in a.m a.outer.now) x = let a = c.args in
-    by-holders (λ s. locked_by a.mode s (sets_in a.m a.outer.now) (resource_is c.resource_in-x.result)) _ _ c.locked.ensures
-    c.set_of.ensures (c.unions-token.ensures _ cell) c.union-holders.ensures in
-    row_on _ _ _ _ c.loop-i.invariant c.loop-i-test.true c.resource_in-x.ensures (ap not answered)
-    (length-resources _ _) (ap not c.if-not-locked.false)
+pub position-requires-clause-callable : goal.position-requires-clause-callable
+position-requires-clause-callable c =
+    serves_from_Range (λ x q k. search rules)
+    (λ x l m.
+    let inner = inner-at _ m c.requires.bytes_in_bounds.1 in
+    let outer = outer-at _ m c.requires.bytes_in_bounds_2 c.requires.bytes_in_bounds.2 in
+    (search rules, search (rules, inner), λ κs p g bs a b k u v w r z y h i d. outer _ _ _ r.ensures))
 
 pub returns : goal.returns
-returns c = row-over _ _ _ c.loop-i.invariant c.loop-i-test.false
+returns c =
+    let n = c.args.n in
+    let xs = resources_in n c.args.resources.now in
+    placed_first _ _ xs no_resource (length-resources n c.args.resources.now) c.position.ensures.ran (λ i b q k. search rules) (λ i b q l k. search (rules, tests))

@@ -1,11 +1,12 @@
--- `layer::laid::Foreseen::cover` meets its contract: at each turn of each loop, what is taken and what is left to take are the cover. Assumes nothing.
+-- `layer::laid::Foreseen::cover` meets its contract: at each turn of the loops, what is taken and what is left to take are the cover. Assumes nothing.
 use Rattle.std.proofs.Common.{sym, ap₂, ◌∙◌, refl, ℕ, arith}
 use borrow.Author.Tests.{eqb-true}
 use Rattle.sets.specs.Words.{set_in}
 use Rattle.layer.specs.Lent.{sets_then}
 use Rattle.layer.proofs.SeenLaws.{length_seen}
-use Rattle.layer.proofs.CoverLaws.{lower, cover-short, rest-past, rest-covered, lower-start, lower-next, lower_end, taken-on, taken-all, walk-miss, walk-room, walk-hit}
+use Rattle.layer.proofs.CoverLaws.{lower, cover-short, rest-covered, lower-start, lower_end, taken-all, left-start, left-end, walk-outside, walk-miss, walk-room, walk-hit}
 use Rattle.layer.proofs.laid.Foreseen.cover.Goals as goal
+use Rattle.layer.proofs.laid.Foreseen.cover.Goals.{else-within-via-then-within+else-is_fresh, else-within-via-else-within}
 
 pub sizes-init : goal.sizes-init
 sizes-init c =
@@ -17,54 +18,55 @@ sizes-init c =
       places = refl;
     }
 
-pub loop-i-init : goal.loop-i-init
-loop-i-init c = (taken-on c.sizes.invariant (lower-next _ _ _ _ c.sizes-test.true), omega arith)
+pub loop-v-init : goal.loop-v-init
+loop-v-init c = left-start c.sizes.invariant c.sizes-test.true
 
 pub sizes-preserved : goal.sizes-preserved
-sizes-preserved c =
-    let many = length_seen _ _ _ _ c.args.self.now.seen_in in
-    taken-on c.loop-i-2.invariant.0 (rest-past _ _ _ _ _ (omega (arith, many, c.if-i-n.true)))
+sizes-preserved c = left-end c.loop-v-2.invariant (length_seen _ _ _ _ c.args.self.now.seen_in) c.in_default.ensures.steps
 
-pub loop-i-2-preserved : goal.loop-i-2-preserved
-loop-i-2-preserved c =
-    let many = length_seen _ _ _ _ c.args.self.now.seen_in in
-    (walk-miss _ _ c.loop-i-2.invariant.0 many (omega (arith, c.if-i-n.false, c.loop-i-2.invariant.1)) c.adds.ensures c.if-adds.false, omega (arith, c.if-i-n.false, c.loop-i-2.invariant.1))
+pub loop-v-2-preserved : goal.loop-v-2-preserved
+loop-v-2-preserved c =
+    elim c.else-within.branch [
+      | else-within-via-then-within+else-is_fresh w ↦ walk-miss c.loop-v-2.invariant (length_seen _ _ _ _ c.args.self.now.seen_in) c.in-Some.ensures.steps c.set_of-x.ensures (sym c.within.ensures ∙ w.if-within.true) (omega (arith, c.size-k.ensures.value)) w.is_fresh.ensures w.if-is_fresh.false
+      | else-within-via-else-within w ↦ walk-outside c.loop-v-2.invariant (length_seen _ _ _ _ c.args.self.now.seen_in) c.in-Some.ensures.steps c.set_of-x.ensures (sym c.within.ensures ∙ w.if-within.false)
+    ]
 
 pub bounds-from-count : goal.bounds-from-count
 bounds-from-count c =
-    let many = length_seen _ _ _ _ c.args.self.now.seen_in in
-    let short = cover-short _ _ c.size-k.ensures.value c.size-k.ensures.upper_bound in
-    walk-room _ _ c.loop-i-2.invariant.0 many (omega (arith, c.if-i-n.false, c.loop-i-2.invariant.1)) c.adds.ensures c.if-adds.true short
+    walk-room c.loop-v-2.invariant (length_seen _ _ _ _ c.args.self.now.seen_in) c.in-Some.ensures.steps c.set_of-x.ensures
+    (sym c.within.ensures ∙ c.if-within.true) (omega (arith, c.size-k.ensures.value)) c.is_fresh.ensures c.if-is_fresh.true
+    (cover-short _ _ c.size-k.ensures.value c.size-k.ensures.upper_bound)
 
-pub invariant_of-result : goal.invariant_of-result
-invariant_of-result c =
-    let many = length_seen _ _ _ _ c.args.self.now.seen_in in
-    let short = cover-short _ _ c.size-k.ensures.value c.size-k.ensures.upper_bound in
-    record { few = (walk-hit _ _ c.loop-i-2.invariant.0 many (omega (arith, c.if-i-n.false, c.loop-i-2.invariant.1)) c.adds.ensures c.if-adds.true short c.set_of.ensures c.union-covered.ensures).few }
+pub loop-v-smaller : goal.loop-v-smaller
+loop-v-smaller c =
+    let room = walk-room c.loop-v-2.invariant (length_seen _ _ _ _ c.args.self.now.seen_in) c.in-Some.ensures.steps c.set_of-x.ensures
+    (sym c.within.ensures ∙ c.if-within.true) (omega (arith, c.size-k.ensures.value)) c.is_fresh.ensures c.if-is_fresh.true
+    (cover-short _ _ c.size-k.ensures.value c.size-k.ensures.upper_bound) in
+    omega (arith, room)
 
-pub returns-then-eq : goal.returns-then-eq
-returns-then-eq c =
-    let many = length_seen _ _ _ _ c.args.self.now.seen_in in
-    let short = cover-short _ _ c.size-k.ensures.value c.size-k.ensures.upper_bound in
-    taken-all
-    (walk-hit _ _ c.loop-i-2.invariant.0 many (omega (arith, c.if-i-n.false, c.loop-i-2.invariant.1)) c.adds.ensures c.if-adds.true short c.set_of.ensures c.union-covered.ensures)
-    (rest-covered _ _ _ _ _ (eqb-true _ _ (sym c.eq.ensures ∙ c.if-eq.true)))
+pub loop-v-preserved : goal.loop-v-preserved
+loop-v-preserved c =
+    walk-hit c.loop-v-2.invariant (length_seen _ _ _ _ c.args.self.now.seen_in) c.in-Some.ensures.steps c.set_of-x.ensures
+    (sym c.within.ensures ∙ c.if-within.true) (omega (arith, c.size-k.ensures.value)) c.is_fresh.ensures c.if-is_fresh.true
+    (cover-short _ _ c.size-k.ensures.value c.size-k.ensures.upper_bound) c.set_of.ensures c.union-covered.ensures
 
-pub loop-i-smaller : goal.loop-i-smaller
-loop-i-smaller c =
-    let many = length_seen _ _ _ _ c.args.self.now.seen_in in
-    let short = cover-short _ _ c.size-k.ensures.value c.size-k.ensures.upper_bound in
-    omega (arith, walk-room _ _ c.loop-i-2.invariant.0 many (omega (arith, c.if-i-n.false, c.loop-i-2.invariant.1)) c.adds.ensures c.if-adds.true short)
-
-pub loop-i-preserved : goal.loop-i-preserved
-loop-i-preserved c =
-    let many = length_seen _ _ _ _ c.args.self.now.seen_in in
-    let short = cover-short _ _ c.size-k.ensures.value c.size-k.ensures.upper_bound in
-    (walk-hit _ _ c.loop-i-2.invariant.0 many (omega (arith, c.if-i-n.false, c.loop-i-2.invariant.1)) c.adds.ensures c.if-adds.true short c.set_of.ensures c.union-covered.ensures, omega (arith, c.if-i-n.false, c.loop-i-2.invariant.1))
-
--- nothing is left to take: no set is smaller
+-- nothing is left to take: no set is smaller, or all of s are covered
 pub invariant_of-result-2 : goal.invariant_of-result-2
 invariant_of-result-2 c = record { few = c.sizes.invariant.few }
 
 pub returns : goal.returns
 returns c = taken-all c.sizes.invariant (lower_end _ _ _ _ c.sizes-test.false)
+
+pub invariant_of-result : goal.invariant_of-result
+invariant_of-result c =
+    let on = walk-hit c.loop-v-2.invariant (length_seen _ _ _ _ c.args.self.now.seen_in) c.in-Some.ensures.steps c.set_of-x.ensures
+    (sym c.within.ensures ∙ c.if-within.true) (omega (arith, c.size-k.ensures.value)) c.is_fresh.ensures c.if-is_fresh.true
+    (cover-short _ _ c.size-k.ensures.value c.size-k.ensures.upper_bound) c.set_of.ensures c.union-covered.ensures in
+    record { few = on.taken.few }
+
+pub returns-then-eq : goal.returns-then-eq
+returns-then-eq c =
+    let on = walk-hit c.loop-v-2.invariant (length_seen _ _ _ _ c.args.self.now.seen_in) c.in-Some.ensures.steps c.set_of-x.ensures
+    (sym c.within.ensures ∙ c.if-within.true) (omega (arith, c.size-k.ensures.value)) c.is_fresh.ensures c.if-is_fresh.true
+    (cover-short _ _ c.size-k.ensures.value c.size-k.ensures.upper_bound) c.set_of.ensures c.union-covered.ensures in
+    taken-all on.taken (rest-covered _ _ _ _ _ (eqb-true _ _ (sym c.eq.ensures ∙ c.if-eq.true)))

@@ -1,8 +1,0 @@
--- `layer::laid::Foreseen::as_laid` meets its contract. Assumes nothing.
-use mathlib.Core.List.{append-nil}
-use Rattle.layer.specs.Seen.{seen_sets}
-use Rattle.layer.proofs.laid.Foreseen.as_laid.Goals as goal
-
-pub returns : goal.returns
-unfolding seen_sets
-returns c = append-nil _
