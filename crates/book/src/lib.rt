@@ -182,6 +182,7 @@ fn load(bytes: &[u8], version: u16, h: Head, t: &mut TablesMut<'_>)
 }
 
 // What a table holds are bytes: a fact that the proofs need of it, and no code.
+// The lemma `saved` asks for it as `TableBytes`.
 fn is_bytes(table: &[u8])
     ensures { Bytes table.now }
 {}
@@ -248,6 +249,7 @@ pub fn first_fault(bytes: &[u8]) -> Result<(), Fault>
         return Err(Fault::Version);
     }
     let h = header_in(bytes, Users::empty());
+    // The mode is compared as a number: it is a byte of the book, which may be any (RULES 9.10).
     if h.mode.0 > 1 {
         return Err(Fault::Mode);
     }

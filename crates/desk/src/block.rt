@@ -48,6 +48,7 @@ const NO_REQUEST: Asked = Asked {
 };
 
 // What a line asks; `cut` says that its start was dropped because it is too long.
+// `cut` is a flag: what is left of the line comes with it either way, as in `row_for`.
 fn asked(line: &[u8], cut: bool) -> Asked
     ensures { result ≡ row_for cut (line_asks line.now) }
 {
@@ -66,6 +67,7 @@ fn put_request(requests: &mut [u64], row: usize, q: Asked)
 }
 
 // How many request rows were filled, and what is left of the input.
+// The rows lie in lent memory of a fixed size, so that their count stands here.
 #[derive(Clone, Copy)]
 pub struct Block {
     pub rows: usize,
@@ -106,6 +108,7 @@ pub fn read_block(input: &[u8], u: Unread, requests: &mut [u64]) -> Block
 }
 
 // The block's requests on the book, in one call. None finds the order list too short.
+// `Ready` is a clause: the tables are lent to be changed, a `SoundBook`'s only to be read.
 pub fn serve_block(
     h: Head,
     t: &mut TablesMut<'_>,

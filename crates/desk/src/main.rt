@@ -87,6 +87,7 @@ fn wait(console: Console, s: State, input: &mut [u8], out: &[u8]) -> io::Result<
 }
 
 // The requests of a block are served, and their answers printed.
+// `Ready` is a clause: the head is in the state, of which `prints-program` speaks.
 fn answer_block(
     console: Console,
     s: State,
@@ -157,6 +158,7 @@ fn answer_all(
     requires { Starts s (tables_mut t.old) input.old }
     ensures { IfOk result (λ r. Runs (desk s (tables_mut t.old) input.old []) r (tables_mut t.new) input.new) }
 {
+    // Arrays of fixed sizes, with counts beside them: nothing is put on a heap.
     let mut requests: [u64; REQUEST_ROWS] = zeros(0);
     let mut answers: [u16; ANSWER_ROWS] = zeros(0);
     let mut orders: [u16; ORDER_ROWS] = zeros(0);

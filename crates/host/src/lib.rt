@@ -106,6 +106,7 @@ pub extern "C" fn fenstubble_version() -> u32
 }
 
 // 0 where there is no refusal: of calls that tell no view.
+// A number and no Result: it is what C is given.
 fn number(done: Result<(), Refusal>) -> u16
     ensures { result ≡ number_of done }
 {
@@ -132,6 +133,7 @@ pub extern "C" fn fenstubble_check(
 ) -> u16
     ensures { result ≡ check_answer head.now (tables inner_vertices.now inner_tokens.now outer_vertices.now outer_tokens.now resources.now) }
 {
+    // The five pointers of C, here and below: each exported function has them as parameters.
     let t = BookTables {
         inner_vertices,
         inner_tokens,
@@ -152,6 +154,7 @@ pub extern "C" fn fenstubble_section(
 ) -> u16
     ensures { answered result start.new size.new place.new ≡ section_answer bytes.now k start.old size.old }
 {
+    // A cell, since the result of `section` is the part itself (RULES 14.7).
     let mut cell: u16 = 0;
     let n = book::section(bytes, k, &mut cell, place).len();
     if cell != 0 {
@@ -185,6 +188,7 @@ pub extern "C" fn fenstubble_read(
 ) -> u16
     ensures { loaded_as result head.new (tables inner_vertices.new inner_tokens.new outer_vertices.new outer_tokens.new resources.new) place.new ≡ read_answer bytes.now head.old (tables inner_vertices.old inner_tokens.old outer_vertices.old outer_tokens.old resources.old) }
 {
+    // Written out: of tables that a function put together, nothing would be known afterwards.
     let mut t = BookTables {
         inner_vertices,
         inner_tokens,

@@ -17,6 +17,7 @@ use rules::{BookTables, Refusal, Resource, Tables, TablesMut};
 use sets::{User, Users};
 
 // The number of a refusal, with 11 also the view; 0 where there is none.
+// A number and no Result: it is what C is given.
 #[tactic(auto, unfolding(crate::specs::Answers::result_of))]
 fn code(done: Result<(), Refusal>) -> u16
     ensures { result ≡ code_of done }
@@ -57,6 +58,7 @@ pub extern "C" fn fenstubble_join(
 ) -> u16
     ensures { changed_as result head.new (tables inner_vertices.new inner_tokens.new outer_vertices.new outer_tokens.new resources.new) orders.new count.new ≡ change_answer joins head.old (tables inner_vertices.old inner_tokens.old outer_vertices.old outer_tokens.old resources.old) orders.old count.old }
 {
+    // The five pointers of C, here and below, written out as in `fenstubble_read`.
     let mut t = BookTables {
         inner_vertices,
         inner_tokens,

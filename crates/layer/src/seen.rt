@@ -35,6 +35,7 @@ pub fn as_laid(n: usize) -> Seen
 
 impl<'a> Foreseen<'a> {
     // A layer as it lies in its table.
+    // The count n stands beside the table, which may be longer, as one lent from C is.
     pub fn in_table(vertices: &'a [u8], n: usize) -> Foreseen<'a>
         requires { (n * bytes ≤ length vertices.now) × (n < 65536) }
         ensures seen_value { result.seen ≡ as_laid n }

@@ -5,6 +5,7 @@ ghost use Rattle.lines.specs.Answer.{digits, numeral, of_open, row_text, rows_te
 use rules::{Order, OrderKind};
 
 // A text as it stands.
+// A buffer and a place, here and below: it is lent, of a fixed length, and no String is on a heap.
 pub fn put_text(text: &[u8], out: &mut [u8], at: usize) -> usize
     requires { at + length text.now ≤ length out.old }
     ensures { Puts text.now at out.old result out.new }
@@ -92,6 +93,7 @@ fn put_no(number: u16, view: u16, out: &mut [u8], at: usize) -> usize
     ensures { Puts (no_text number view) at out.old result out.new }
 {
     let end = put_text(b"no ", out, at);
+    // 11 is a number of an answer row, as `no_text` reads it.
     if number == 11 {
         let end = put_numeral(11, b' ', out, end);
         return put_numeral(u64::from(view), b'\n', out, end);
@@ -107,6 +109,7 @@ pub fn put_answer(number: u16, view: u16, rows: &[u16], out: &mut [u8], at: usiz
     if room / 18 < rows.len() / Order::WIDTH {
         return None;
     }
+    // 0 is a number of an answer row, as `answer_text` reads it: no refusal.
     if number == 0 {
         return Some(put_ok(rows, out, at));
     }

@@ -157,6 +157,7 @@ fn read_numbers(rest: &[u8], numbers: &mut [u64]) -> Option<usize>
     ensures numbers_after { got result numbers.new ≡ numbers_of (behind rest.now) }
     ensures result_bound { counted result ≤ 256 }
 {
+    // Counted by hand: how many there are is the result, which `enumerate` tells only in the loop.
     let mut count = 0;
     for piece in rest.split(|c| *c == b' ').skip(1) {
         numbers[count] = number_in(piece)?;
@@ -182,6 +183,7 @@ pub fn read_line(line: &[u8]) -> Option<Asked>
     }
     let k = word_end(line);
     let kind = kind_of(&line[..k])?;
+    // An array with a count beside it: nothing is put on a heap.
     let mut numbers = [0u64; 256];
     let count = read_numbers(&line[k..], &mut numbers)?;
     row_of(kind, &numbers[..count])

@@ -23,6 +23,7 @@ fn store(records: &mut [Order], at: usize, kind: u16, a: u16, b: u16)
 }
 
 // The first n rows of the numbers become the first n records.
+// The rows are an array of a fixed size, so that their count n stands beside them.
 fn store_rows(records: &mut [Order], rows: &[u16], n: usize)
     requires { (n * 3 ≤ length rows.now) × (n ≤ length records.old) }
     ensures { records.new ≡ over (orders_in n rows.now) records.old }
@@ -65,6 +66,7 @@ pub fn change(
     ensures same { SameTables t.old t.new }
     ensures change { recording result (tables_mut t.new) records.new ≡ recorded (request_of request) h (tables_mut t.old) records.old }
 {
+    // An array for the most orders, since nothing is put on a heap.
     let mut rows = [0u16; MOST * Order::WIDTH];
     let done = fill(h, t, request, &mut rows, records.len())?;
     store_rows(records, &rows, done.count as usize);

@@ -100,6 +100,7 @@ fn limits(a: After, room: usize, p: Plan) -> Result<Plan, Refusal>
 }
 
 // The plan of a request that adds no kind 1 token.
+// `free` is a flag: a condition with no value beside it.
 fn plain(free: bool) -> Plan
     ensures { result ≡ plan free false 0 }
 {
@@ -137,6 +138,7 @@ pub fn exist(h: Head, r: Resource, u: User) -> Result<(), Refusal>
 // ---- parts of the outer work
 
 // The vertex for a list, and n re-locks with it.
+// The table may be longer than the rows in use, as one lent from C is: so the head is beside it.
 fn lock_rows(h: Head, ov: &[u8], list: Users, n: usize) -> Part
     requires { (h.outer_vertices.0 * bytes ≤ length ov.now) × (n < 65536) }
     ensures value { result ≡ lock_part (sets_only h.outer_vertices.0 ov.now) (set_in list) n }
@@ -146,6 +148,8 @@ fn lock_rows(h: Head, ov: &[u8], list: Users, n: usize) -> Part
 }
 
 // The folder itself: its outer key taken off, or a lock for the list.
+// `free` is a flag: list and outer vertex are the folder's either way.
+// `NONE` by its number, as the rows and the definition `settled_part` have it.
 fn settled(h: Head, ov: &[u8], free: bool, outer: OuterVertex, list: Users) -> Part
     requires { h.outer_vertices.0 * bytes ≤ length ov.now }
     ensures value { result ≡ settled_part free outer.0 (sets_only h.outer_vertices.0 ov.now) (set_in list) }
@@ -178,6 +182,8 @@ fn with_neighbours(h: Head, ov: &[u8], n: usize, holders: Users, s: Part) -> Par
 // ---- insert
 
 // The inner layer as it lies in the tables.
+// Twin of sound's `Book::inner`: `laid` is shown from `Ready` here, from `room` and `s1` there.
+// `Ready` is a clause: policy's `keys_of` has head and tables, and no `SoundBook`.
 pub fn inner_layer<'a>(h: Head, t: &Tables<'a>) -> Layer<'a>
     requires { Ready h (tables_of t.now) }
     ensures shape { result.shape ≡ inner_shape h }
@@ -346,6 +352,7 @@ impl SoundBook<'_> {
 }
 
 // The refusals of a request from 1 on, else its plan.
+// `Ready` is a clause: the `SoundBook` is made here, since callers have head and tables apart.
 pub fn judge(h: Head, t: &Tables<'_>, q: Request, room: usize) -> Result<Plan, Refusal>
     requires { Ready h (tables_of t.now) }
     ensures { result ≡ judged (request_of q) (book_in h (tables_of t.now)) room }

@@ -31,6 +31,7 @@ struct Keys<'a> {
 }
 
 // The outer layer as it lies in the tables.
+// Twin of sound's `Book::outer`: `laid` is shown from `Ready` here, from `room` and `s1` there.
 fn outer_layer<'a>(h: Head, t: &Tables<'a>) -> Layer<'a>
     requires { Ready h (tables_of t.now) }
     ensures { layer_in result ≡ (book_in h (tables_of t.now)).outer }
@@ -42,6 +43,7 @@ fn outer_layer<'a>(h: Head, t: &Tables<'a>) -> Layer<'a>
     }
 }
 
+// `Ready` is a clause: `KeysOf`, which is promised, speaks of the head and the tables.
 fn keys_of<'a>(h: Head, t: &Tables<'a>, r: Resource) -> Keys<'a>
     requires ready { Ready h (tables_of t.now) }
     requires r_lt_resources { r.0 < h.resources.0 }
@@ -58,6 +60,7 @@ fn keys_of<'a>(h: Head, t: &Tables<'a>, r: Resource) -> Keys<'a>
 
 // ---- the view
 
+// Two flags: whether a key is known is a condition with no value beside it.
 fn view_by(inner: bool, outer: bool) -> View
     ensures { result ≡ view_by inner outer }
 {
@@ -70,6 +73,7 @@ fn view_by(inner: bool, outer: bool) -> View
 }
 
 // Whether u derives the key of an outer vertex; where there is none, "the outer key counts as derived, by everybody" (RULES 3.8).
+// `NONE` by its number, as the rows and the definition `known_in` have it.
 fn outer_known(o: &Layer<'_>, v: OuterVertex, u: User) -> bool
     requires { (u.0 < people) × OuterThere o.now.shape.vertices v.0 }
     ensures { result ≡ known_in (layer_in o.now) u.0 v.0 }
@@ -78,6 +82,7 @@ fn outer_known(o: &Layer<'_>, v: OuterVertex, u: User) -> bool
 }
 
 // The view of u on r: whether they know the inner key, and whether the outer one.
+// `Ready` is a clause: either caller has head and tables, and a struct for one call is no plainer.
 fn view_of(h: Head, t: &Tables<'_>, u: User, r: Resource) -> View
     requires ready { Ready h (tables_of t.now) }
     requires u_lt_users { (u.0 < h.users.0) × (r.0 < h.resources.0) }
@@ -140,6 +145,7 @@ fn chain_lengths(h: Head, t: &Tables<'_>, u: User, r: Resource) -> Chains
 }
 
 // 1, 11 and 10 of an open; else the chains' lengths. `room` numbers or rows are lent for them.
+// `Ready` is a clause: `Passed`, which is promised, speaks of the head and the tables.
 pub fn judge_open(
     h: Head,
     t: &Tables<'_>,

@@ -14,6 +14,7 @@ use sets::{User, Users};
 use sound::check;
 
 // A request on tables that are known to be long enough and to hold a sound book.
+// `Ready` is a clause: the tables are lent to be changed, a `SoundBook`'s only to be read.
 pub fn carry_out(
     h: Head,
     t: &mut TablesMut<'_>,

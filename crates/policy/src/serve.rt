@@ -108,6 +108,7 @@ fn put_shown(h: Head, t: &Tables<'_>, u: User, r: Resource, k: Chains, orders: &
 }
 
 // An open on tables that are known to be long enough and to hold a sound book: the head stays, and its rows count.
+// `Ready` is a clause: head and tables come apart from `answer_one`, which may change the tables.
 fn open_one(
     h: Head,
     t: &Tables<'_>,
@@ -127,6 +128,7 @@ fn open_one(
 }
 
 // One of several requests, on the book that the ones before it left.
+// `Ready` is a clause: the tables are lent to be changed, a `SoundBook`'s only to be read.
 fn answer_one(
     h: Head,
     t: &mut TablesMut<'_>,
@@ -164,6 +166,7 @@ fn put_answer(h: Head, a: Result<Applied, Refusal>, answers: &mut [u16], row: us
 
 // ---- all of them
 
+// `Ready` is a clause: each request may change the tables, and a `SoundBook`'s are only read.
 fn serve_all(
     h: Head,
     t: &mut TablesMut<'_>,

@@ -79,6 +79,7 @@ pub fn bad_count(h: Head) -> Option<usize>
 }
 
 // S1: the mode and the counts.
+// The mode is compared as a number: a call may lend any, and S1 judges it here.
 pub fn counts_hold(h: Head) -> bool
     ensures { result ≡ counts_of h }
 {
@@ -86,6 +87,7 @@ pub fn counts_hold(h: Head) -> bool
 }
 
 // S1: the leavers, then sets, kinds and numbers, where the counts hold.
+// `Room` is a clause: a `Book` keeps S1, which is only judged here.
 fn s1(h: Head, t: &Tables<'_>) -> Result<(), Spot>
     requires room { Room h (tables_of t.now) }
     requires h_value { counts_of h ≡ true }
@@ -107,6 +109,7 @@ fn s1(h: Head, t: &Tables<'_>) -> Result<(), Spot>
 }
 
 impl<'a> Book<'a> {
+    // Twin of plan's `inner_layer`: `laid` is shown from `room` and `s1` here, from `Ready` there.
     fn inner(&self) -> Layer<'a>
         ensures value { layer_in result ≡ (book_of self.now).inner }
         ensures shape_value { result.shape ≡ inner_shape self.now.head }
@@ -118,6 +121,7 @@ impl<'a> Book<'a> {
         }
     }
 
+    // Twin of `inner`: each reads its own fields of the tables and the head.
     fn outer(&self) -> Layer<'a>
         ensures value { layer_in result ≡ (book_of self.now).outer }
         ensures shape_value { result.shape ≡ outer_shape self.now.head }
@@ -226,6 +230,7 @@ fn by(rule: Letter, answer: Result<(), Spot>) -> Result<(), (Letter, Spot)>
 }
 
 // S1 to S8, where the counts hold: the first rule that is broken, and where.
+// `Room` is a clause: the `Book` is made here, once S1 is known to hold.
 pub fn first_rule(h: Head, t: &Tables<'_>) -> Result<(), (Letter, Spot)>
     requires room { Room h (tables_of t.now) }
     requires h_value { counts_of h ≡ true }

@@ -16,6 +16,7 @@ use layer::table::{find_set, set_of, token_in};
 use sets::{User, Users};
 
 // S1: the first vertex whose set names someone who has not joined.
+// A table has its count n beside it, here and below: it may be longer, as one lent from C is.
 pub fn strange_set(vertices: &[u8], n: usize, users: u16) -> Option<usize>
     requires { (n * bytes ≤ length vertices.now) × (users ≤ people) }
     ensures { result ≡ found_in n (first (λ s. not (joined_set users s)) (sets_in n vertices.now)) }
@@ -24,6 +25,7 @@ pub fn strange_set(vertices: &[u8], n: usize, users: u16) -> Option<usize>
 }
 
 // S1: the first token of a kind above 1, or from or to a vertex that does not exist.
+// A kind is compared as a number: it is a byte of the table, which may be any.
 pub fn strange_token(tokens: &[u8], width: usize, n: usize, vertices: usize) -> Option<usize>
     requires { (4 ≤ width) × (width ≤ 5) × (n * width ≤ length tokens.now) }
     ensures { result ≡ found_in n (first (λ t. not (placed_in vertices t)) (tokens_in width n tokens.now)) }
@@ -59,6 +61,7 @@ pub fn ownless(vertices: &[u8], n: usize, users: u16) -> Option<usize>
 }
 
 // S2: the first token of kind 0 that enters an own vertex.
+// Kinds by number, here and in the two below, as `enters_group` and the like have them.
 pub fn enters_own(l: &Layer<'_>) -> Option<usize>
     ensures { result ≡ found_in l.now.shape.tokens (first (λ t. not (enters_group (layer_in l.now) t)) (layer_in l.now).tokens) }
 {
@@ -91,6 +94,7 @@ pub fn not_lateral(l: &Layer<'_>) -> Option<usize>
 }
 
 // S3: the first vertex whose set an earlier one has. Only a set whose mark was met before is searched for among the earlier ones.
+// A loop: each row sets a mark that later rows ask, and a closure that writes is no plainer.
 #[inline(never)]
 pub fn equal_set(vertices: &[u8], n: usize) -> Option<usize>
     requires { n * bytes ≤ length vertices.now }
@@ -126,6 +130,7 @@ pub fn ununited(l: &Layer<'_>) -> Option<usize>
 }
 
 // S6: the first token between two vertices that an earlier one is between. (Where S4 and S6's other half hold, such rows are equal.)
+// A loop, as in `equal_set`: each row sets its mark.
 #[inline(never)]
 pub fn equal_token(tokens: &[u8], width: usize, n: usize) -> Option<usize>
     requires le_width { (4 ≤ width) × (width ≤ 5) × (n * width ≤ length tokens.now) }
