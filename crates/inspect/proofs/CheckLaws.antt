@@ -15,20 +15,19 @@ use Rattle.rules.specs.Bytes.{version_in, head_in, counts, start, limits_of, fau
 use Rattle.rules.specs.declared.Head.{Head}
 use Rattle.rules.specs.declared.Fault.{Fault}
 use Rattle.rules.specs.declared.Fault.TheVariants.{Mark, Version, Mode, Count, Length, Rule}
-use Rattle.book.specs.Wrongs.{wrong_is}
-use Rattle.book.specs.declared.Wrong.{Wrong}
-use Rattle.book.specs.declared.Wrong.TheVariants.{Nothing, First}
+use Rattle.std.specs.Prelude.{Result, Ok, Err}
+use Rattle.sound.specs.Check.{unless}
 use Rattle.lines.specs.Answer.{Puts}
 use Rattle.inspect.specs.Input.{FrontOf}
 use Rattle.inspect.specs.Text.{head_text, limit_at, count_text, length_text, broken_text, short_text, answer_text, check_text, Headed, grown, grown_by}
 use Rattle.inspect.proofs.LongLaws.{fault-whole, version-whole, head-whole, short-whole}
 
 -- what the call says of the front
-fault-nothing : (o : Option Fault) → Nothing ≡ wrong_is o → o ≡ none
+fault-nothing : (o : Option Fault) → Ok tt ≡ unless o → o ≡ none
 fault-nothing none e = refl
 fault-nothing (some f) e = cc
 
-fault-first : (o : Option Fault) (f : Fault) → First f ≡ wrong_is o → o ≡ some f
+fault-first : (o : Option Fault) (f : Fault) → Err f ≡ unless o → o ≡ some f
 fault-first none f e = cc
 fault-first (some g) f e = cc
 
@@ -66,12 +65,12 @@ module _ {front : List ℕ} {total : ℕ} {came : List ℕ} (f : FrontOf front t
       let (e, t) = short-whole f h in
       rw (e, t, fault-short front h) (broken-short (version_in front) (head_in front) (length front) h)
 
-  module _ {w : Wrong} (e : w ≡ wrong_is (fault front)) where
-    pub check_sound : w ≡ Nothing → check_text came ≡ head_text (head_in front)
+  module _ {w : Result (Unit {0}) Fault} (e : w ≡ unless (fault front)) where
+    pub check_sound : w ≡ Ok tt → check_text came ≡ head_text (head_in front)
     unfolding check_text answer_text
     check_sound n = ap₂ (answer_text (version_in came)) (head-whole f) (fault-whole f ∙ ap (grown_by total) (fault-nothing (fault front) (sym n ∙ e)))
 
-    pub check-broken : {x y : Fault} {v : ℕ} {h : Head} (s : Users) → w ≡ First x → v ≡ version_in front → h ≡ left_by s (head_in front) → y ≡ grown total x
+    pub check-broken : {x y : Fault} {v : ℕ} {h : Head} (s : Users) → w ≡ Err x → v ≡ version_in front → h ≡ left_by s (head_in front) → y ≡ grown total x
         → check_text came ≡ broken_text v h y
     unfolding check_text answer_text
     check-broken {x} {y} {v} {h} s n ev eh ey =

@@ -5,9 +5,9 @@ ghost use Rattle.inspect.specs.Text.{Headed, grown, mode_text, people_text, laye
 
 use crate::text::put_number;
 use crate::words::put_sentence;
-use book::{HEADER, Wrong, first_fault, head_in, header_in, version_in};
+use book::{HEADER, first_fault, head_in, header_in, version_in};
 use lines::answer::put_text;
-use rules::{Fault, Head, fault_number, fault_place};
+use rules::{Fault, Head, Mode};
 use sets::Users;
 
 // The fault of an input of which only the front was judged: a wrong length is that of the whole.
@@ -20,12 +20,12 @@ fn grow(f: Fault, total: usize) -> Fault
     }
 }
 
-fn put_mode(mode: u16, out: &mut [u8], at: usize) -> usize
+fn put_mode(mode: Mode, out: &mut [u8], at: usize) -> usize
     requires { at + 20 ≤ length out.old }
-    ensures puts { Puts (mode_text mode) at out.old result out.new }
+    ensures puts { Puts (mode_text mode.0) at out.old result out.new }
     ensures upper_bound { result ≤ at + 20 }
 {
-    if mode == 0 {
+    if mode == Mode::FULL {
         return put_text(b"mode full\n", out, at);
     }
     put_text(b"mode delta\n", out, at)
@@ -38,7 +38,7 @@ fn put_people(h: Head, out: &mut [u8]) -> usize
     ensures upper_bound { result ≤ 100 }
 {
     let a = put_text(b"sound\n", out, 0);
-    let b = put_mode(h.mode.0, out, a);
+    let b = put_mode(h.mode, out, a);
     let c = put_number(b"users ", h.users.0 as u64, b'\n', out, b);
     put_number(b"folders ", h.resources.0 as u64, b'\n', out, c)
 }
@@ -77,8 +77,8 @@ fn put_refused(f: Fault, out: &mut [u8]) -> usize
     ensures puts { Puts (refused_text f) 0 out.old result out.new }
     ensures upper_bound { result ≤ 100 }
 {
-    let end = put_number(b"no ", fault_number(f) as u64, b' ', out, 0);
-    put_number(b"", fault_place(f) as u64, b'\n', out, end)
+    let end = put_number(b"no ", f.number() as u64, b' ', out, 0);
+    put_number(b"", f.place() as u64, b'\n', out, end)
 }
 
 // Of bytes that have a header.
@@ -110,10 +110,9 @@ pub fn put_check(front: &[u8], total: usize, out: &mut [u8]) -> usize
     if front.len() < HEADER {
         return put_short(total, out);
     }
-    let w = first_fault(front);
-    match w {
-        Wrong::Nothing => put_head(head_in(front), out),
-        Wrong::First(f) => {
+    match first_fault(front) {
+        Ok(()) => put_head(head_in(front), out),
+        Err(f) => {
             let h = header_in(front, Users::empty());
             put_broken(version_in(front), h, grow(f, total), out)
         }

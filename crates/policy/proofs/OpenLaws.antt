@@ -4,7 +4,7 @@ use Rattle.std.specs.Prelude.{Result, Ok, Err}
 use Prim.Native.Nat.{ℕ, ◌+◌, ◌-◌, ◌≤◌, ◌<◌}
 use mathlib.Core.Path.{◌≡◌, refl, sym, ap, ap₂, ◌∙◌}
 use mathlib.Core.Bool.{Bool, true, false, ◌&&◌, not, cond}
-use mathlib.Core.Logic.{inl, inr, ◌≢◌}
+use mathlib.Core.Logic.{◌⊎◌, inl, inr, ◌≢◌}
 use mathlib.Core.List.{List, [], ◌∷◌}
 use mathlib.Core.Option.{Option, some, none}
 use native.Mathlib.Omega.{arith}
@@ -218,6 +218,12 @@ module _ {h : Head} {t : Tables} {r : ℕ} {k : Keys} (f : KeysOf h t r k) where
             ∙ stored-add 0 (inner_chain B u r) (outer_chain B u r) list at (omega arith) (omega (arith, both))
 
 -- ---- the refusals of open: 1, 11 and 10
+
+-- a view by its number among the cases, where it is not the first
+pub not-open : (number : View → ℕ) {v : View} → number Open ≡ 0 → (number v ≡ 1) ⊎ ((number v ≡ 2) ⊎ (number v ≡ 3)) → v ≢ Open
+not-open number {v} z (inl e) q = let a : number v ≡ 0 = ap number q ∙ z in omega arith
+not-open number {v} z (inr (inl e)) q = let a : number v ≡ 0 = ap number q ∙ z in omega arith
+not-open number {v} z (inr (inr e)) q = let a : number v ≡ 0 = ap number q ∙ z in omega arith
 
 closed : (v : View) → v ≢ Open → not (eqb (view_number v) 0) ≡ true
 closed Open n = absurd (n refl)

@@ -9,21 +9,21 @@ pub returns-then-front-lt-HEADER : goal.returns-then-front-lt-HEADER
 returns-then-front-lt-HEADER c = λ came f. rw (check-short f (omega arith)) c.put_short.ensures
 
 pub head_in-requires : goal.head_in-requires
-head_in-requires c = book-front _ (book-nothing _ c.first_fault-w.ensures c.in-Nothing.is)
+head_in-requires c = book-front _ (book-nothing _ c.first_fault.ensures c.in-Ok.is)
 
 pub put_broken-requires : goal.put_broken-requires
 put_broken-requires c =
     record {
       in_bounds = search rules;
-      headed = rw c.grow.ensures (headed c.args.total c.in-First.f (omega arith));
+      headed = rw c.grow.ensures (headed c.args.total c.in-Err.f (omega arith));
     }
 
-pub returns-in-Nothing : goal.returns-in-Nothing
-returns-in-Nothing c = λ came f.
-    rw (check_sound f c.first_fault-w.ensures c.in-Nothing.is) (rw c.head_in.ensures at c.put_head.ensures)
+pub returns-in-Ok : goal.returns-in-Ok
+returns-in-Ok c = λ came f.
+    rw (check_sound f c.first_fault.ensures c.in-Ok.is) (rw c.head_in.ensures at c.put_head.ensures)
 
-pub returns-in-First : goal.returns-in-First
-returns-in-First c =
+pub returns-in-Err : goal.returns-in-Err
+returns-in-Err c =
     λ came f.
-    rw (check-broken f c.first_fault-w.ensures _ c.in-First.is c.version_in.ensures c.header_in-h.ensures c.grow.ensures)
+    rw (check-broken f c.first_fault.ensures _ c.in-Err.is c.version_in.ensures c.header_in-h.ensures c.grow.ensures)
     c.put_broken.ensures

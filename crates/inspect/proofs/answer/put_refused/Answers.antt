@@ -10,6 +10,6 @@ returns c =
     let n = c.put_number-end in
     let p = c.put_number in
     record {
-      puts = put_then (omega arith) (rw c.fault_number.ensures at n.ensures.puts) (rw c.fault_place.ensures at p.ensures.puts);
+      puts = put_then (omega arith) (rw c.number.ensures at n.ensures.puts) (rw c.place.ensures at p.ensures.puts);
       upper_bound = omega (arith, n.ensures.upper_bound, p.ensures.upper_bound);
     }
