@@ -24,7 +24,7 @@ use Rattle.theorems.proofs.RequestLaws.{Allowed}
 use Rattle.theorems.proofs.LeaveLaws.{leave-given, run-laws, run-users, revoke_all-next, naming_to, leave_to, leave-to-all, to-run, to-names, to-fits}
 use Rattle.plan.proofs.WaitLaws.{below_none, below-yes, below-no}
 use Rattle.apply.specs.Apply.{Works, strike_by, StrikeRoom, applied}
-use Rattle.apply.specs.declared.step.Step.{Step}
+use Rattle.apply.specs.Apply.{Step}
 use Rattle.apply.proofs.WorksLaws.{step, rest, past-none, then-orders, works-none, works-next, works-on, works-length, works-change, resources-in, users-in}
 use Rattle.apply.proofs.ApplyLaws.{Known}
 use Rattle.apply.proofs.RevokeLaws.{strike-is, strike-not, strike-allowed}

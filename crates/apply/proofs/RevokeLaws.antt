@@ -26,7 +26,7 @@ use Rattle.layer.specs.Laid.{outer_shape, layer_of, max_vertices}
 use Rattle.plan.specs.Waiting.{row}
 use Rattle.write.specs.Write.{Resources, listed}
 use Rattle.apply.specs.Apply.{Works, strike_by, LockRoom, StrikeRoom, applied}
-use Rattle.apply.specs.declared.step.Step.{Step}
+use Rattle.apply.specs.Apply.{Step}
 use Rattle.apply.proofs.WorksLaws.{step, with_rows, works-none, works-next, works-list, works-change, outer-in, resources-in, users-in, row-in}
 use Rattle.apply.proofs.ApplyLaws.{Known, lock-allowed}
 

@@ -39,7 +39,7 @@ use Rattle.plan.proofs.ReadyLaws.{resources-count, users-count, row_read}
 use Rattle.write.specs.Write.{Resources, ResourceAdded, listed, locked}
 use Rattle.apply.specs.Step.{with_inner, with_outer}
 use Rattle.apply.specs.Apply.{Grown, Past, Rest, Works, LockRoom, Accepted, applied}
-use Rattle.apply.specs.declared.step.Step.{Step}
+use Rattle.apply.specs.Apply.{Step}
 
 -- ---- one after the other
 

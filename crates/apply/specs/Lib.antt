@@ -1,3 +1,4 @@
 pub mod Step
 pub mod Apply
 pub mod Grant
+pub mod Work

@@ -5,7 +5,7 @@ ghost use Rattle.rules.specs.Refusals.{leaves};
 ghost use Rattle.rules.specs.Calls.{change};
 ghost use Rattle.apply.specs.Apply.{Accepted, applied};
 
-use crate::step::{Step, answer, strike};
+use crate::step::Work;
 use rules::{Applied, Head, Resource, TablesMut};
 use sets::User;
 
@@ -14,11 +14,17 @@ pub fn apply_leave(h: Head, t: &mut TablesMut<'_>, orders: &mut [u16], u: User) 
     ensures same { SameTables t.old t.new }
     ensures value { applied result (tables_mut t.new) orders.new ≡ change (leaves u.0) h (tables_mut t.old) orders.old }
 {
-    let mut a = Step { head: h, at: 0 };
+    let mut w = Work {
+        head: h,
+        tables: t,
+        orders,
+        at: 0,
+    };
     for r in 0..h.resources.0 {
-        a = strike(a, t, orders, Resource(r), u);
+        w.strike(Resource(r), u);
     }
-    let leavers = a.head.leavers.with(u);
-    let head = Head { leavers, ..a.head };
-    answer(Step { head, ..a }, t)
+    let head = w.head;
+    let leavers = head.leavers.with(u);
+    w.head = Head { leavers, ..head };
+    w.answer()
 }

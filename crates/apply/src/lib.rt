@@ -11,7 +11,7 @@ ghost use Rattle.apply.specs.Apply.{Accepted, applied};
 
 use crate::grant::apply_grant;
 use crate::leave::apply_leave;
-use crate::step::{Step, answer, settle, strike, with_inner};
+use crate::step::{Work, with_inner};
 use layer::cover::put_order;
 use layer::make::vertex_for;
 use layer::table::put_set;
@@ -47,7 +47,13 @@ pub fn apply_join(h: Head, t: &mut TablesMut<'_>, orders: &mut [u16]) -> Applied
         outer_vertices: OuterVertices(o + 1),
         ..h
     };
-    answer(Step { head, at: 2 }, t)
+    let w = Work {
+        head,
+        tables: t,
+        orders,
+        at: 2,
+    };
+    w.answer()
 }
 
 // The vertex, the row, and its lock, which may be none; the order for the row comes last.
@@ -74,16 +80,22 @@ pub fn apply_insert(
         OrderKind::InnerToken as u16,
     );
     let n = h.resources.0;
-    add_resource(t.resources, n as usize, l, InnerVertex(m.vertex));
+    let inner = InnerVertex(m.vertex);
+    add_resource(t.resources, n as usize, l, inner);
     let head = Head {
         resources: Resources(n + 1),
         ..with_inner(h, m.shape)
     };
-    let a = Step { head, at: m.at };
+    let mut w = Work {
+        head,
+        tables: t,
+        orders,
+        at: m.at,
+    };
     let none = OuterVertex(OuterVertex::NONE);
-    let b = settle(a, t, orders, Resource(n), none, l, p.free);
-    put_order(orders, b.at, OrderKind::Encrypt as u16, n, m.vertex);
-    answer(Step { at: b.at + 1, ..b }, t)
+    w.settle(Resource(n), none, l, p.free);
+    w.encrypt(Resource(n), inner);
+    w.answer()
 }
 
 pub fn apply_revoke(
@@ -97,9 +109,14 @@ pub fn apply_revoke(
     ensures same { SameTables t.old t.new }
     ensures value { applied result (tables_mut t.new) orders.new ≡ change (revokes r.0 u.0) h (tables_mut t.old) orders.old }
 {
-    let start = Step { head: h, at: 0 };
-    let a = strike(start, t, orders, r, u);
-    answer(a, t)
+    let mut w = Work {
+        head: h,
+        tables: t,
+        orders,
+        at: 0,
+    };
+    w.strike(r, u);
+    w.answer()
 }
 
 // Applying a request with its plan.

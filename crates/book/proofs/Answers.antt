@@ -2,15 +2,20 @@
 -- Assumes nothing.
 use Prim.Native.Nat.{ℕ, suc, ◌+◌, ◌*◌, ◌-◌, ◌≤◌, ◌<◌}
 use mathlib.Core.Path.{◌≡◌, refl, sym, ap, ap₂, subst, ◌∙◌}
-use mathlib.Core.Bool.{Bool, true, false, not, cond}
+use mathlib.Core.Bool.{Bool, true, false, ◌&&◌, not, cond, true≢false}
 use mathlib.Core.List.{List, [], ◌∷◌}
-use mathlib.Core.Option.{Option, some, none}
+use mathlib.Core.Option as math
+use mathlib.Core.Option.{some, none}
+use Rattle.std.specs.Prelude.{Option, Some, None, Result, Ok, Err, is_some}
 use native.Mathlib.Numerals.{add-one}
 use native.Mathlib.Omega.{arith}
-use lib.Dec.{ltb}
-use lib.ListN.{length, get_or, take, drop, length-take, length-drop}
-use borrow.Author.Tests.{not-true, lt-ltb, le-ltb, ltb-true}
+use denote.Ref.{Bor}
+use lib.Dec.{eqb, ltb}
+use lib.ListN.{length, get_or, take, drop}
+use borrow.Author.Tests.{not-true, not-false, lt-ltb, le-ltb, ltb-true, eqb-true, eq-eqb}
+use Rattle.std.specs.List.{starts_with}
 use Rattle.sets.specs.declared.Users.{Users}
+use Rattle.sets.proofs.Laws.{both}
 use Rattle.rows.specs.Number.{cell, stored}
 use Rattle.rows.proofs.Laws.{cell-add, cell-one}
 use Rattle.rows.proofs.Fill.{row_within}
@@ -18,8 +23,8 @@ use Rattle.rules.specs.Lists.{first}
 use Rattle.rules.specs.Tests.{first_rule, when, first_some}
 use Rattle.rules.specs.Book.{Book}
 use Rattle.rules.specs.Sound.{in_limit, rules, sound}
-use Rattle.rules.specs.Bytes.{widths, Tables, newest, version_in, fore, head_of, head_in, counts, start, sections, read, limits_of, count_places, bad_count, place_of, rule_fault, fault, fault_number, fault_place, is_book, book_in, laid, write, Room, Bytes, left_by}
-use Rattle.rules.specs.Refusals.{short, common, verdict, faulty_by, refusal_read, refusal_section, refusal_write}
+use Rattle.rules.specs.Bytes.{widths, Tables, newest, version_in, fore, head_of, head_in, counts, start, section, sections, read, limits_of, count_places, bad_count, place_of, rule_fault, fault, is_book, book_in, laid, write, Room, Bytes, left_by}
+use Rattle.rules.specs.Refusals.{short, common, verdict, faulty_by, refusal_read, refusal_section, refusal_write, denial_number, denial_place}
 use Rattle.rules.specs.Calls.{part, part_by, section_call, loading, load_by, read_call, writing, write_by, write_call}
 use Rattle.rules.specs.declared.Head.{Head}
 use Rattle.rules.specs.declared.Letter.{Letter}
@@ -28,29 +33,23 @@ use Rattle.rules.specs.declared.Spot.TheVariants.{Row, Leavers, Missing}
 use Rattle.rules.specs.declared.Fault.{Fault}
 use Rattle.rules.specs.declared.Fault.TheVariants.{Count, Rule}
 use Rattle.rules.specs.declared.Refusal.{Refusal}
-use Rattle.rules.specs.declared.Refusal.TheVariants.{ShortTable, ShortList}
+use Rattle.rules.specs.declared.Refusal.TheVariants.{NoSuch, ShortTable, ShortList}
+use Rattle.rules.specs.declared.Denial.{Denial}
 use Rattle.rules.specs.declared.Denial.TheVariants.{Refused, Faulty}
-use Rattle.std.specs.Prelude as code
-use Rattle.std.specs.Result.{IsErrAnd}
-use Rattle.std.proofs.lemmas.Result.{err_from_is_err_and}
-use Rattle.std.specs.Prelude.{Some, None, Result, Ok, Err}
-use Rattle.sound.specs.Check.{unless, counts_of, checked}
+use Rattle.sound.specs.Check.{counts_of, unless, checked}
 use Rattle.sound.proofs.Counted.{bad_counts, six-limits, counts-hold}
 use Rattle.theorems.proofs.RequestLaws.{common-none, common-passed, verdict-first}
 use Rattle.theorems.proofs.FaultLaws.{fault-none}
+use Rattle.theorems.proofs.TestedLaws.{same}
 use Rattle.theorems.proofs.SpotLaws.{sizes_of, There, spot-there}
 use Rattle.theorems.proofs.ByteLaws.{BookFits, sound-fits, sound-room, head-in}
 use Rattle.theorems.proofs.WriteLaws.{Exact, BookBytes, book-bytes, head_read, length-write, start-next, start-le}
-use Rattle.book.specs.Ready.{Whole, Loadable, Savable, Judgeable, Counted}
-use Rattle.book.proofs.Laws.{start_left, counts-left, start-fore, Cuts, cuts, parts, section-cut, sections-cut}
+use Rattle.book.specs.Ready.{Loadable, Savable, Judgeable, Counted, PartOf}
+use Rattle.book.proofs.Laws.{start_left, counts-left, start-fore, section-cut}
 
 -- the answer x is no (the code tests `!x`)
 pub no : {s x : Bool} → x ≡ s → not x ≡ true → s ≡ false
 no {x = x} a e = sym a ∙ not-true x e
-
--- the error e that a `?` passes on
-pub passed_on : {A E : Type 0} {e : E} (r : Result A E) → IsErrAnd r (λ y. y ≡ e) → r ≡ Err e
-passed_on r h = let p = err_from_is_err_and r h in p.1 ∙ ap (λ y. Err y) p.2
 
 -- ---- first_fault
 
@@ -75,13 +74,38 @@ marked bs byte l k =
     let m : get_or bs 0 0 + 256 * get_or bs 1 0 + 65536 * get_or bs 2 0 ≡ 0x424B54 = sym (mark-bytes bs l) ∙ k in
     (omega (arith, byte 0, byte 1, byte 2), omega (arith, byte 0, byte 1, byte 2), omega (arith, byte 0, byte 1, byte 2))
 
+-- the answer whether the bytes begin with it
+pub mark-told : (bs : List ℕ) → Bytes bs → 3 ≤ length bs → starts_with eqb bs (0x54 ∷ 0x4B ∷ 0x42 ∷ []) ≡ eqb (cell 3 0 bs) 0x424B54
+mark-told [] byte l = absurd (omega arith)
+mark-told (x ∷ []) byte l = absurd (omega arith)
+mark-told (x ∷ y ∷ []) byte l = absurd (omega arith)
+mark-told (x ∷ y ∷ z ∷ bs) byte l =
+    same (eqb 0x54 x && (eqb 0x4B y && (eqb 0x42 z && true))) (eqb (cell 3 0 (x ∷ y ∷ z ∷ bs)) 0x424B54)
+    (λ t.
+    let (a, rest) = both (eqb 0x54 x) (eqb 0x4B y && (eqb 0x42 z && true)) t in
+    let (b, last) = both (eqb 0x4B y) (eqb 0x42 z && true) rest in
+    let c = both (eqb 0x42 z) true last in
+    eq-eqb (cell 3 0 (x ∷ y ∷ z ∷ bs)) 0x424B54
+    (mark-is (x ∷ y ∷ z ∷ bs) l (sym (eqb-true 0x54 x a)) (sym (eqb-true 0x4B y b)) (sym (eqb-true 0x42 z c.0))))
+    (λ t.
+    let (a, b, c) = marked (x ∷ y ∷ z ∷ bs) byte l (eqb-true (cell 3 0 (x ∷ y ∷ z ∷ bs)) 0x424B54 t) in
+    rw (eq-eqb 0x54 x (sym a), eq-eqb 0x4B y (sym b), eq-eqb 0x42 z (sym c)))
+
+-- by the answer r
+module _ (bs : List ℕ) (byte : Bytes bs) (long : 17 ≤ length bs) {r : Bool} (e : r ≡ starts_with eqb bs (0x54 ∷ 0x4B ∷ 0x42 ∷ [])) where
+  pub mark-there : not r ≡ false → cell 3 0 bs ≡ 0x424B54
+  mark-there q = eqb-true (cell 3 0 bs) 0x424B54 (sym (e ∙ mark-told bs byte (omega arith)) ∙ not-false r q)
+
+  pub mark-missing : not r ≡ true → (cell 3 0 bs ≡ 0x424B54 → ⊥)
+  mark-missing q t = true≢false (sym (eq-eqb (cell 3 0 bs) 0x424B54 t) ∙ sym (e ∙ mark-told bs byte (omega arith)) ∙ not-true r q)
+
 -- the mode of a head that is read
 pub mode-read : (bs : List ℕ) (s : Users) {h : Head} → h ≡ left_by s (head_in bs) → h.mode.0 ≡ cell 1 5 bs
 unfolding head_in
 mode-read bs s e = ap (λ (h : Head). h.mode.0) e
 
 -- a count past its limit is found
-pub count-found : (h : Head) {c : code.Option ℕ} {i : ℕ} → c ≡ bad_counts h → c ≡ Some i → (i < 6) × (bad_count h ≡ some (Count (get_or count_places i 0)))
+pub count-found : (h : Head) {c : Option ℕ} {i : ℕ} → c ≡ bad_counts h → c ≡ Some i → (i < 6) × (bad_count h ≡ some (Count (get_or count_places i 0)))
 unfolding bad_count when
 count-found h {c = c} {i = i} e a = go (ltb k 6) refl (sym e ∙ a)
   where
@@ -95,7 +119,7 @@ count-found h {c = c} {i = i} e a = go (ltb k 6) refl (sym e ∙ a)
     go false l q = let z : ◌≡◌ {A = ℕ} 0 1 = cc in absurd (omega arith)
 
 -- and none is
-pub count_none : (h : Head) {c : code.Option ℕ} → c ≡ bad_counts h → c ≡ None → bad_count h ≡ none
+pub count_none : (h : Head) {c : Option ℕ} → c ≡ bad_counts h → c ≡ None → bad_count h ≡ none
 unfolding bad_count when
 count_none h {c = c} e a = go (ltb k 6) refl (sym e ∙ a)
   where
@@ -105,6 +129,11 @@ count_none h {c = c} e a = go (ltb k 6) refl (sym e ∙ a)
     go : (b : Bool) → ltb k 6 ≡ b → cond b (Some k) None ≡ None → cond (ltb k (length (limits_of h))) (some (Count (get_or count_places k 0))) none ≡ none
     go true l q = let z : ◌≡◌ {A = ℕ} 0 1 = cc in absurd (omega arith)
     go false l q = rw (six-limits h, l)
+
+-- what is no place is none
+pub none-is : (o : Option ℕ) → ((i : ℕ) → o ≡ Some i → ⊥) → o ≡ None
+none-is None n = refl
+none-is (Some i) n = absurd (n i refl)
 
 -- bytes of the exact length have all that stands before the sections
 pub front-there : (bs : List ℕ) (h : Head) {v : ℕ} → v ≡ version_in bs → length bs ≡ start v h 5 → fore (version_in bs) ≤ length bs
@@ -119,13 +148,13 @@ pub start-header : (bs : List ℕ) (s : Users) (k : ℕ) {v a : ℕ} {g : Head} 
 start-header bs s k {v = v} e ev eg = start-read bs k (e ∙ ap (λ (x : Head). start v x k) eg ∙ start_left v s (head_in bs) k) ev refl
 
 -- with all before them passed, the rules decide: g is the head where nobody has left, which mode, counts and length are judged by
-pub judgeable : (bs : List ℕ) (v : ℕ) (s : Users) (g h : Head) {c : code.Option ℕ} → v ≡ version_in bs → g ≡ left_by s (head_in bs) → h ≡ head_in bs → g.mode.0 ≤ 1
+pub judgeable : (bs : List ℕ) (v : ℕ) (s : Users) (g h : Head) {c : Option ℕ} → v ≡ version_in bs → g ≡ left_by s (head_in bs) → h ≡ head_in bs → g.mode.0 ≤ 1
     → c ≡ bad_counts g → c ≡ None → length bs ≡ start v g 5 → Judgeable bs v h
 judgeable bs v s g h ev eg eh m f n exact =
     let same : g ≡ left_by s h = eg ∙ ap (left_by s) (sym eh) in
     record {
       whole = record { version = ev; head = eh; exact = exact ∙ ap (λ (x : Head). start v x 5) same ∙ start_left v s h 5 };
-      within = sym (counts-left s h) ∙ ap counts_of (sym same) ∙ sym (counts-hold g m f (ap code.is_some n));
+      within = sym (counts-left s h) ∙ ap counts_of (sym same) ∙ sym (counts-hold g m f (ap is_some n));
     }
 
 pub by-rules : (bs : List ℕ) (v : ℕ) (h : Head) {w : Result (Unit {0}) Fault} → Judgeable bs v h → fault bs ≡ rule_fault (version_in bs) (head_in bs) (first_rule (rules (read bs)))
@@ -157,64 +186,20 @@ missing-place v h e = sym (ap (place_of v h) e)
 
 -- ---- rule_fault
 
--- the sections hold the rows that the head counts
-sizes : (bs : List ℕ) (v : ℕ) (h : Head) (z a b c d : ℕ) → length bs ≡ start v h 5 → Cuts v h z a b c d → Room h (parts bs z a b c d)
-sizes bs v h z a b c d exact cut = record {
-  inner_vertices = simp (length-take, length-drop) (omega arith);
-  inner_tokens = simp (length-take, length-drop) (omega arith);
-  outer_vertices = simp (length-take, length-drop) (omega arith);
-  outer_tokens = simp (length-take, length-drop) (omega arith);
-  resources = simp (length-take, length-drop) (omega arith);
-}
-
--- where they start
-starts : (v : ℕ) (h : Head) → Cuts v h (start v h 0) (start v h 1) (start v h 2) (start v h 3) (start v h 4)
-starts v h = cuts v h (start v h 0) (start v h 1) (start v h 2) (start v h 3) (start v h 4) refl refl refl refl refl
-
-pub sections-room : {bs : List ℕ} {v : ℕ} {h : Head} {s : Tables} → Whole bs v h → s ≡ sections bs → Room h s
-sections-room {bs} {v} {h} w e =
-    subst (Room h) (sections-cut bs v h (start v h 0) (start v h 1) (start v h 2) (start v h 3) (start v h 4) w (starts v h) ∙ sym e)
-    (sizes bs v h (start v h 0) (start v h 1) (start v h 2) (start v h 3) (start v h 4) w.exact (starts v h))
-
--- and are no longer than tables with room for those
-pub record Fits (s t : Tables) : Type 0 where
-  pub inner_vertices : 0 + length s.inner_vertices ≤ length t.inner_vertices
-  pub inner_tokens : 0 + length s.inner_tokens ≤ length t.inner_tokens
-  pub outer_vertices : 0 + length s.outer_vertices ≤ length t.outer_vertices
-  pub outer_tokens : 0 + length s.outer_tokens ≤ length t.outer_tokens
-  pub resources : 0 + length s.resources ≤ length t.resources
-
-fits : (bs : List ℕ) (v : ℕ) (h : Head) (t : Tables) (z a b c d : ℕ) → length bs ≡ start v h 5 → Cuts v h z a b c d → Room h t → Fits (parts bs z a b c d) t
-fits bs v h t z a b c d exact cut r = record {
-  inner_vertices = simp (length-take, length-drop) (omega (arith, cut, r));
-  inner_tokens = simp (length-take, length-drop) (omega (arith, cut, r));
-  outer_vertices = simp (length-take, length-drop) (omega (arith, cut, r));
-  outer_tokens = simp (length-take, length-drop) (omega (arith, cut, r));
-  resources = simp (length-take, length-drop) (omega (arith, cut, r, exact));
-}
-
-pub sections-fit : {bs : List ℕ} {v : ℕ} {h : Head} {t s : Tables} → Loadable bs v h t → s ≡ sections bs → Fits s t
-sections-fit {bs} {v} {h} {t} p e =
-    subst (λ (s : Tables). Fits s t) (sections-cut bs v h (start v h 0) (start v h 1) (start v h 2) (start v h 3) (start v h 4) p.whole (starts v h) ∙ sym e)
-    (fits bs v h t (start v h 0) (start v h 1) (start v h 2) (start v h 3) (start v h 4) p.whole.exact (starts v h) p.room)
-
--- what the rules say j of the book in the sections, they say of the one that is read
-pub read-judged : (bs : List ℕ) (v : ℕ) (h : Head) {s : Tables} {j : Result (Unit {0}) (Letter × Spot)} → Judgeable bs v h → s ≡ sections bs
-    → j ≡ unless (first_rule (rules (book_in h s))) → j ≡ unless (first_rule (rules (read bs)))
+-- what the rules say j of the book in the sections t, they say of the one that is read
+pub read-judged : (bs : List ℕ) (v : ℕ) (h : Head) {t : Tables} {j : Result (Unit {0}) (Letter × Spot)} → Judgeable bs v h → t ≡ sections bs
+    → j ≡ unless (first_rule (rules (book_in h t))) → j ≡ unless (first_rule (rules (read bs)))
 unfolding read
-read-judged bs v h k cut e =
-    e ∙ ap (λ (x : Book). unless (first_rule (rules x))) (ap₂ book_in k.whole.head cut)
+read-judged bs v h k cut e = e ∙ ap (λ (x : Book). unless (first_rule (rules x))) (ap₂ book_in k.whole.head cut)
 
-judged-none : (o : Option (Letter × Spot)) → Ok tt ≡ unless o → o ≡ none
-judged-none none e = refl
-judged-none (some r) e = let z : ◌≡◌ {A = ℕ} 0 1 = cc in absurd (omega arith)
+-- what stands behind an answer
+pub fine : {E : Type 0} (o : math.Option E) {u : Unit {0}} → Ok u ≡ unless o → o ≡ none
+fine none e = refl
+fine (some r) e = cc
 
-judged-some : (o : Option (Letter × Spot)) {l : Letter} {s : Spot} → Err (l, s) ≡ unless o → o ≡ some (l, s)
-judged-some none e = let z : ◌≡◌ {A = ℕ} 0 1 = cc in absurd (omega arith)
-judged-some (some r) {l} {s} e =
-    let a : l ≡ r.0 = cc in
-    let b : s ≡ r.1 = cc in
-    sym (ap₂ (λ (x : Letter) (y : Spot). some (x, y)) a b)
+pub against : {E : Type 0} (o : math.Option E) {r : E} → Err r ≡ unless o → o ≡ some r
+against none e = cc
+against (some q) e = cc
 
 counted : (h : Head) (t : Tables) (s : Spot) → There (sizes_of (book_in h t)) s → Counted h s
 unfolding counts head_of
@@ -228,21 +213,22 @@ counted h t s e = go s (subst (λ (x : Head). There (counts x) s) (head-in h t) 
     go Leavers e = tt
     go Missing e = tt
 
--- a row that is told is one that the head counts
-pub spot-counted : (bs : List ℕ) (v : ℕ) (h : Head) (s : Spot) {j : Result (Unit {0}) (Letter × Spot)} {l : Letter} → Judgeable bs v h → j ≡ unless (first_rule (rules (read bs))) → j ≡ Err (l, s)
-    → Counted h s
-unfolding read
-spot-counted bs v h s k e a =
-    subst (λ (x : Head). Counted x s) (sym k.whole.head) (counted (head_in bs) (sections bs) s (spot-there (read bs) (judged-some (first_rule (rules (read bs))) (sym a ∙ e))))
+-- by the answer j on the rules
+module _ (bs : List ℕ) (v : ℕ) (h : Head) {j : Result (Unit {0}) (Letter × Spot)} (e : j ≡ unless (first_rule (rules (read bs)))) where
+  pub rule-fine : {u : Unit {0}} → j ≡ Ok u → Ok tt ≡ unless (rule_fault v h (first_rule (rules (read bs))))
+  unfolding rule_fault
+  rule-fine a = rw (fine (first_rule (rules (read bs))) (sym a ∙ e))
 
-pub rule-nothing : (v : ℕ) (h : Head) (b : Book) {j : Result (Unit {0}) (Letter × Spot)} → j ≡ unless (first_rule (rules b)) → j ≡ Ok tt → Ok tt ≡ unless (rule_fault v h (first_rule (rules b)))
-unfolding rule_fault
-rule-nothing v h b e a = rw (judged-none (first_rule (rules b)) (sym a ∙ e))
+  module _ {r : Letter × Spot} (a : j ≡ Err r) where
+    -- a row that is told is one that the head counts
+    pub spot-counted : Judgeable bs v h → Counted h r.1
+    unfolding read
+    spot-counted k =
+        subst (λ (x : Head). Counted x r.1) (sym k.whole.head) (counted (head_in bs) (sections bs) r.1 (spot-there (read bs) (against (first_rule (rules (read bs))) (sym a ∙ e))))
 
-pub rule-first : (v : ℕ) (h : Head) (b : Book) {j : Result (Unit {0}) (Letter × Spot)} {l : Letter} {s : Spot} {at : ℕ} → j ≡ unless (first_rule (rules b)) → j ≡ Err (l, s) → at ≡ place_of v h s
-    → Err (Rule l s at) ≡ unless (rule_fault v h (first_rule (rules b)))
-unfolding rule_fault
-rule-first v h b {l = l} {s = s} e a p = rw (judged-some (first_rule (rules b)) (sym a ∙ e)) (ap (λ (n : ℕ). Err (Rule l s n)) p)
+    pub rule-first : {at : ℕ} → at ≡ place_of v h r.1 → Err (Rule r.0 r.1 at) ≡ unless (rule_fault v h (first_rule (rules (read bs))))
+    unfolding rule_fault
+    rule-first p = rw (against (first_rule (rules (read bs))) (sym a ∙ e)) (ap (λ (n : ℕ). Err (Rule r.0 r.1 n)) p)
 
 -- ---- section
 
@@ -259,34 +245,38 @@ section-within bs k a b e ea eb =
     (omega (arith, start-next v (head_in bs) k), omega (arith, start-le v (head_in bs) (suc k)))
 
 -- the bytes are a book where nothing is wrong, and else f is wrong first
-pub book-nothing : (bs : List ℕ) {w : Result (Unit {0}) Fault} → w ≡ unless (fault bs) → w ≡ Ok tt → is_book bs ≡ true
-book-nothing bs e a = (fault-none bs).0 (go (fault bs) (sym a ∙ e))
-  where
-    go : (o : Option Fault) → Ok tt ≡ unless o → o ≡ none
-    go none e = refl
-    go (some f) e = let z : ◌≡◌ {A = ℕ} 0 1 = cc in absurd (omega arith)
+pub book-nothing : (bs : List ℕ) {w : Result (Unit {0}) Fault} {u : Unit {0}} → w ≡ unless (fault bs) → w ≡ Ok u → is_book bs ≡ true
+book-nothing bs e a = (fault-none bs).0 (fine (fault bs) (sym a ∙ e))
 
 fault-first : (bs : List ℕ) {w : Result (Unit {0}) Fault} {f : Fault} → w ≡ unless (fault bs) → w ≡ Err f → fault bs ≡ some f
-fault-first bs {f = f} e a = go (fault bs) (sym a ∙ e)
-  where
-    go : (o : Option Fault) → Err f ≡ unless o → o ≡ some f
-    go none e = let z : ◌≡◌ {A = ℕ} 0 1 = cc in absurd (omega arith)
-    go (some g) e = cc
+fault-first bs e a = against (fault bs) (sym a ∙ e)
 
 -- what is wrong first
-pub section-broken : (bs : List ℕ) (k : ℕ) {w : Result (Unit {0}) Fault} {f : Fault} → w ≡ unless (fault bs) → w ≡ Err f → part [] (fault_number f) (fault_place f) ≡ section_call bs k
-unfolding section_call part_by refusal_section first_some faulty_by
-section-broken bs k e a = rw (fault-first bs e a)
+pub part-broken : (bs : List ℕ) (k : ℕ) {w : Result (Unit {0}) Fault} {f : Fault} → w ≡ unless (fault bs) → w ≡ Err f → PartOf bs k (Err (Faulty f))
+unfolding refusal_section first_some faulty_by
+part-broken bs k e a = rw (fault-first bs e a)
 
-pub section-none : (bs : List ℕ) (k : ℕ) → is_book bs ≡ true → 5 ≤ k → part [] 1 0 ≡ section_call bs k
-unfolding section_call part_by refusal_section first_some faulty_by when
-section-none bs k e l = rw ((fault-none bs).1 e, le-ltb k 5 l)
+pub part-none : (bs : List ℕ) (k : ℕ) → is_book bs ≡ true → 5 ≤ k → PartOf bs k (Err (Refused NoSuch))
+unfolding refusal_section first_some faulty_by when
+part-none bs k e l = rw ((fault-none bs).1 e, le-ltb k 5 l)
 
-pub section-given : (bs : List ℕ) (k a b : ℕ) → is_book bs ≡ true → k < 5 → a ≡ start (version_in bs) (head_in bs) k → b ≡ start (version_in bs) (head_in bs) (k + 1)
-    → part (take (b - a) (drop a bs)) 0 0 ≡ section_call bs k
-unfolding section_call part_by refusal_section first_some faulty_by when
-section-given bs k a b e l ea eb =
-    rw ((fault-none bs).1 e, lt-ltb k 5 l) (ap (λ (s : List ℕ). part s 0 0) (section-cut bs k a b ea (eb ∙ ap (start (version_in bs) (head_in bs)) (add-one k))))
+pub part-given : (bs : List ℕ) (k a b : ℕ) → is_book bs ≡ true → k < 5 → a ≡ start (version_in bs) (head_in bs) k
+    → b ≡ start (version_in bs) (head_in bs) (k + 1) → (refusal_section bs k ≡ none) × (take (b - a) (drop a bs) ≡ section bs k)
+unfolding refusal_section first_some faulty_by when
+part-given bs k a b e l ea eb =
+    (rw ((fault-none bs).1 e, lt-ltb k 5 l), section-cut bs k a b ea (eb ∙ ap (start (version_in bs) (head_in bs)) (add-one k)))
+
+-- in the cells, by the answer r
+module _ (bs : List ℕ) (k : ℕ) {r : Result (Bor (List ℕ)) Denial} (g : PartOf bs k r) where
+  pub section-given : {p : Bor (List ℕ)} → r ≡ Ok p → part p.now 0 0 ≡ section_call bs k
+  unfolding section_call part_by
+  section-given a =
+      let (none', is) = subst (PartOf bs k) a g in
+      rw none' (ap (λ (s : List ℕ). part s 0 0) is)
+
+  pub section-refused : {d : Denial} {n at : ℕ} → r ≡ Err d → n ≡ denial_number d → at ≡ denial_place d → part [] n at ≡ section_call bs k
+  unfolding section_call part_by
+  section-refused a en ep = rw (subst (PartOf bs k) a g) (ap₂ (part []) en ep)
 
 -- ---- read
 
@@ -312,23 +302,15 @@ read-given bs h t u s e eh eu = rw (s, (fault-none bs).1 e) (ap₂ (λ (x : Head
 
 -- ---- write
 
-by-none : (o : Option Refusal) → Ok tt ≡ unless o → o ≡ none
-by-none none e = refl
-by-none (some r) e = let z : ◌≡◌ {A = ℕ} 0 1 = cc in absurd (omega arith)
-
-by-some : (o : Option Refusal) (r : Refusal) → Err r ≡ unless o → o ≡ some r
-by-some none r e = let z : ◌≡◌ {A = ℕ} 0 1 = cc in absurd (omega arith)
-by-some (some q) r e = cc
-
 -- the check passed
-pub checked-sound : (h : Head) (t : Tables) {k : Result (Unit {0}) Refusal} → k ≡ Ok tt → k ≡ checked h t → (short t ≡ false) × (sound (book_in h t) ≡ true)
+pub checked-sound : (h : Head) (t : Tables) {k : Result (Unit {0}) Refusal} {u : Unit {0}} → k ≡ Ok u → k ≡ checked h t → (short t ≡ false) × (sound (book_in h t) ≡ true)
 unfolding checked common
-checked-sound h t p q = let (s, k, n) = common-none t (book_in h t) [] (by-none (verdict (common t (book_in h t))) (sym p ∙ q)) in (s, k)
+checked-sound h t p q = let (s, k, n) = common-none t (book_in h t) [] (fine (verdict (common t (book_in h t))) (sym p ∙ q)) in (s, k)
 
 -- the check answers 13 or 12
-pub checked-no : (h : Head) (t : Tables) (r : Refusal) {k : Result (Unit {0}) Refusal} → k ≡ Err r → k ≡ checked h t → verdict (common t (book_in h t)) ≡ some r
+pub checked-no : (h : Head) (t : Tables) {r : Refusal} {k : Result (Unit {0}) Refusal} → k ≡ Err r → k ≡ checked h t → verdict (common t (book_in h t)) ≡ some r
 unfolding checked
-checked-no h t r p q = by-some (verdict (common t (book_in h t))) r (sym p ∙ q)
+checked-no h t p q = against (verdict (common t (book_in h t))) (sym p ∙ q)
 
 pub savable : (h : Head) (t : Tables) (buffer : List ℕ) → short t ≡ false → sound (book_in h t) ≡ true → start newest h 5 ≤ length buffer → Savable h t buffer
 unfolding book_in

@@ -1,24 +1,25 @@
 -- The book's bytes as code reads and writes them: sections cut out of them, and stores one behind the other. Assumes nothing.
 use Prim.Native.Nat.{ℕ, suc, ◌+◌, ◌*◌, ◌-◌, ◌≤◌, ◌<◌}
-use mathlib.Core.Path.{◌≡◌, refl, sym, ap, ap₂, ◌∙◌}
+use mathlib.Core.Path.{◌≡◌, refl, sym, ap, ap₂, subst, ◌∙◌}
 use mathlib.Core.Bool.{Bool, true, false, cond}
 use mathlib.Core.List.{List, [], ◌∷◌, ◌++◌}
 use native.Mathlib.Nat.{mod-eq_of_lt}
 use native.Mathlib.Omega.{arith}
 use lib.Dec.{eqb}
-use lib.ListN.{length, get_or, take, drop, length-append}
-use lib.Seq.{sets, length-take-le}
+use lib.ListN.{length, get_or, take, drop, set, length-append, length-take, length-drop}
+use native.Mathlib.Numerals.{add-one}
+use lib.Seq.{sets, length-take-le, take-suc}
 use borrow.Author.Tests.{ne_eqb}
 use Rattle.sets.specs.Words.{bytes, set_in, users_of}
 use Rattle.sets.specs.declared.Users.{Users}
 use Rattle.rows.specs.Number.{bytes_of, cell, stored}
 use Rattle.rows.proofs.Laws.{stored-add, stored-sets, length-stored}
-use Rattle.rules.specs.Bytes.{Bytes, widths, Tables, tables, set_row, newest, header, version_in, fore, leavers_in, head_of, head_in, limits_of, bad_count, counts, total, start, section, sections, read, laid, book_in, write, left_by}
+use Rattle.rules.specs.Bytes.{Bytes, widths, Tables, tables, set_row, newest, header, version_in, fore, leavers_in, head_of, head_in, limits_of, bad_count, counts, total, start, section, sections, read, laid, book_in, write, left_by, Room}
 use Rattle.rules.specs.declared.Head.{Head}
 use Rattle.sound.specs.Check.{counts_of}
 use Rattle.theorems.proofs.ByteLaws.{TableBytes, head-in, sections-in}
 use Rattle.theorems.proofs.WriteLaws.{front, length_front, Exact, start-next, sections-read}
-use Rattle.book.specs.Ready.{Whole, Savable}
+use Rattle.book.specs.Ready.{Whole, Loadable, Savable}
 
 -- ---- version, set of leavers and head
 
@@ -76,9 +77,21 @@ sets_behind k a b t u v e l p q =
     let n : length u ≡ length t = ap length p ∙ length-stored 0 a t (omega arith) in
     stored-behind k a b t u v e l p (q ∙ stored-sets k b u (omega arith))
 
+-- the next byte of some that are stored one by one
+pub byte-stored : (at i : ℕ) (bs t : List ℕ) {u : List ℕ} → u ≡ stored at (take i bs) t → i < length bs → at + length bs ≤ length t
+    → set u (at + i) (get_or bs i 0) ≡ stored at (take (i + 1) bs) t
+byte-stored at i bs t {u} e l r =
+    let long : length (take i bs) ≡ i = length-take-le i bs (omega arith) in
+    let n : length u ≡ length t = ap length e ∙ length-stored at (take i bs) t (omega arith) in
+    stored-sets (at + i) (get_or bs i 0 ∷ []) u (omega arith)
+    ∙ ap (stored (at + i) (get_or bs i 0 ∷ [])) e
+    ∙ stored-add at (take i bs) (get_or bs i 0 ∷ []) t (at + i) (omega arith) (omega arith)
+    ∙ ap (λ (x : List ℕ). stored at x t) (sym (rw add-one (take-suc bs i 0 l)))
+
 -- the stores of a header, and of the set of leavers
-pub front-stored : (h : Head) (t a b c d e f g : List ℕ) → 17 + bytes ≤ length t → h.mode.0 < 256 → h.users.0 < 256
-    → a ≡ stored 3 (bytes_of 2 newest) (sets t 0 (0x54 ∷ 0x4B ∷ 0x42 ∷ []))
+pub front-stored : (h : Head) (t m a b c d e f g : List ℕ) → 17 + bytes ≤ length t → h.mode.0 < 256 → h.users.0 < 256
+    → m ≡ stored 0 (0x54 ∷ 0x4B ∷ 0x42 ∷ []) t
+    → a ≡ stored 3 (bytes_of 2 newest) m
     → b ≡ stored 7 (bytes_of 2 h.resources.0) (sets a 5 (h.mode.0 ∷ h.users.0 ∷ []))
     → c ≡ stored 9 (bytes_of 2 h.inner_vertices.0) b
     → d ≡ stored 11 (bytes_of 2 h.inner_tokens.0) c
@@ -87,10 +100,10 @@ pub front-stored : (h : Head) (t a b c d e f g : List ℕ) → 17 + bytes ≤ le
     → g ≡ stored 17 (bytes_of bytes (set_in h.leavers)) f
     → g ≡ stored 0 (front h) t
 unfolding header set_row bytes_of
-front-stored h t a b c d e f g l m u ea eb ec ed ee ef eg =
+front-stored h t m a b c d e f g l mode user em ea eb ec ed ee ef eg =
     let mark : List ℕ = 0x54 ∷ 0x4B ∷ 0x42 ∷ [] in
     let modes : List ℕ = h.mode.0 ∷ h.users.0 ∷ [] in
-    let a' = stored-behind 3 mark (bytes_of 2 newest) t (sets t 0 mark) a refl (omega arith) (stored-sets 0 mark t (omega arith)) ea in
+    let a' = stored-behind 3 mark (bytes_of 2 newest) t m a refl (omega arith) em ea in
     let m' = sets_behind 5 (mark ++ bytes_of 2 newest) modes t a (sets a 5 modes) refl (omega arith) a' refl in
     let b' = stored-behind 7 _ (bytes_of 2 h.resources.0) t (sets a 5 modes) b refl (omega arith) m' eb in
     let c' = stored-behind 9 _ (bytes_of 2 h.inner_vertices.0) t b c refl (omega arith) b' ec in
@@ -98,7 +111,7 @@ front-stored h t a b c d e f g l m u ea eb ec ed ee ef eg =
     let e' = stored-behind 13 _ (bytes_of 2 h.outer_vertices.0) t d e refl (omega arith) d' ee in
     let f' = stored-behind 15 _ (bytes_of 2 h.outer_tokens.0) t e f refl (omega arith) e' ef in
     let g' = stored-behind 17 _ (bytes_of bytes (set_in h.leavers)) t f g refl (omega arith) f' eg in
-    g' ∙ rw (mod-eq_of_lt m, mod-eq_of_lt u)
+    g' ∙ rw (mod-eq_of_lt mode, mod-eq_of_lt user)
 
 -- ---- where the sections start
 
@@ -156,13 +169,43 @@ sections-cut bs v h z a b c d w cut =
     (section-cut bs 3 c d ec ed i)
     (section-cut bs 4 d (length bs) ed (at 5 (length bs) w.exact) i)
 
+-- the rows that the head counts fill them
+pub record Fills (h : Head) (t : Tables) : Type 0 where
+  pub inner_vertices : length t.inner_vertices ≡ h.inner_vertices.0 * bytes
+  pub inner_tokens : length t.inner_tokens ≡ h.inner_tokens.0 * 5
+  pub outer_vertices : length t.outer_vertices ≡ h.outer_vertices.0 * bytes
+  pub outer_tokens : length t.outer_tokens ≡ h.outer_tokens.0 * 4
+  pub resources : length t.resources ≡ h.resources.0 * (bytes + 4)
+
+pub sections-fill : (bs : List ℕ) (v : ℕ) (h : Head) → Whole bs v h → Fills h (sections bs)
+sections-fill bs v h w =
+    let cut : Cuts v h (start v h 0) (start v h 1) (start v h 2) (start v h 3) (start v h 4) = cuts v h _ _ _ _ _ refl refl refl refl refl in
+    subst (Fills h) (sections-cut bs v h _ _ _ _ _ w cut)
+    (record {
+      inner_vertices = simp (length-take, length-drop) (omega (arith, w.exact));
+      inner_tokens = simp (length-take, length-drop) (omega (arith, w.exact));
+      outer_vertices = simp (length-take, length-drop) (omega (arith, w.exact));
+      outer_tokens = simp (length-take, length-drop) (omega (arith, w.exact));
+      resources = simp (length-take, length-drop) (omega (arith, w.exact));
+    })
+
+pub fills-room : (h : Head) (t : Tables) → Fills h t → Room h t
+fills-room h t f =
+    record {
+      inner_vertices = omega arith;
+      inner_tokens = omega arith;
+      outer_vertices = omega arith;
+      outer_tokens = omega arith;
+      resources = omega arith;
+    }
+
 -- ---- loading
 
 pub whole-exact : (bs : List ℕ) (v : ℕ) (h : Head) → Whole bs v h → Exact bs
 whole-exact bs v h w = w.exact ∙ ap₂ (λ (x : ℕ) (y : Head). start x y 5) w.version w.head
 
--- tables with the stretches stored in them hold the book that was read
-pub loaded : (bs : List ℕ) (v : ℕ) (h : Head) (t u : Tables) {s : Tables} → Whole bs v h → Bytes bs → s ≡ sections bs
+-- tables with the sections s stored in them hold the book that was read
+pub loaded : (bs : List ℕ) (v : ℕ) (h : Head) (t u s : Tables) → Loadable bs v h t → Bytes bs → s ≡ sections bs
     → u.inner_vertices ≡ stored 0 s.inner_vertices t.inner_vertices
     → u.inner_tokens ≡ stored 0 s.inner_tokens t.inner_tokens
     → u.outer_vertices ≡ stored 0 s.outer_vertices t.outer_vertices
@@ -170,10 +213,10 @@ pub loaded : (bs : List ℕ) (v : ℕ) (h : Head) (t u : Tables) {s : Tables} �
     → u.resources ≡ stored 0 s.resources t.resources
     → u ≡ laid (read bs) t
 unfolding laid sections
-loaded bs v h t u w byte e iv it ov ot rs =
+loaded bs v h t u s p byte cut iv it ov ot rs =
     (λ i. tables (iv i) (it i) (ov i) (ot i) (rs i))
-    ∙ ap lay e
-    ∙ ap (λ (ps : List (List ℕ)). lay (tables (get_or ps 0 []) (get_or ps 1 []) (get_or ps 2 []) (get_or ps 3 []) (get_or ps 4 []))) (sym (sections-read bs byte (whole-exact bs v h w)))
+    ∙ ap lay cut
+    ∙ ap (λ (ps : List (List ℕ)). lay (tables (get_or ps 0 []) (get_or ps 1 []) (get_or ps 2 []) (get_or ps 3 []) (get_or ps 4 []))) (sym (sections-read bs byte (whole-exact bs v h p.whole)))
   where
     lay : Tables → Tables
     lay s =

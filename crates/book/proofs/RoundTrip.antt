@@ -5,6 +5,7 @@ use mathlib.Core.Path.{◌≡◌, refl, sym, ap, ap₂, subst, ◌∙◌}
 use mathlib.Core.Bool.{Bool, true, false}
 use mathlib.Core.List.{List, [], ◌∷◌}
 use mathlib.Core.Option.{Option, some, none}
+use Rattle.std.specs.Prelude.{Ok}
 use native.Mathlib.Omega.{arith}
 use lib.Dec.{ltb}
 use lib.ListN.{length, take}
@@ -22,7 +23,6 @@ use Rattle.rules.specs.declared.Refusal.TheVariants.{ShortTable, ShortList}
 use Rattle.rules.specs.declared.Denial.{Denial}
 use Rattle.rules.specs.declared.Denial.TheVariants.{Refused}
 use Rattle.rules.specs.declared.Fault.{Fault}
-use Rattle.std.specs.Prelude.{Ok}
 use Rattle.theorems.proofs.RequestLaws.{common-none}
 use Rattle.theorems.proofs.FaultLaws.{fault-none}
 use Rattle.theorems.proofs.ByteLaws.{sound-fits, sound-book-laid, sound-room, short-laid, head-in}

@@ -1,7 +1,11 @@
--- What the rules on a book's sections (RULES 9.3), the place of a row, and the copies of sections need.
+-- What the rules on a book's sections (RULES 9.3), the place of a row, and the copies of sections need; and what a call for a section answers.
 -- Assumes nothing.
-use Rattle.std.specs.Prelude.{ℕ, ◌≤◌, ◌<◌, ◌≡◌, true, List, length, get_or}
-use Rattle.rules.specs.Bytes.{Tables, newest, version_in, head_in, counts, start, Room}
+use Rattle.std.specs.Prelude.{ℕ, ◌≤◌, ◌<◌, ◌≡◌, true, List, length, get_or, Result, MatchResult}
+use Rattle.std.proofs.Math.Option.{some, none}
+use Rattle.std.proofs.Common.{Bor}
+use Rattle.rules.specs.Bytes.{Tables, newest, version_in, head_in, counts, start, section, Room}
+use Rattle.rules.specs.Refusals.{refusal_section}
+use Rattle.rules.specs.declared.Denial.{Denial}
 use Rattle.rules.specs.declared.Head.{Head}
 use Rattle.rules.specs.declared.Spot.{Spot}
 use Rattle.rules.specs.declared.Spot.TheVariants.{Row, Leavers, Missing}
@@ -35,3 +39,7 @@ pub record Savable (h : Head) (t : Tables) (buffer : List ℕ) : Type 0 where
   pub users< : h.users.0 < 256
   pub room : Room h t
   pub long : start newest h 5 ≤ length buffer
+
+-- a section of bytes, or what a call for it is refused with
+abbrev pub PartOf : List ℕ → ℕ → Result (Bor (List ℕ)) Denial → Type 0
+PartOf bs k r = MatchResult r (λ p. (refusal_section bs k ≡ none) × (p.now ≡ section bs k)) (λ d. refusal_section bs k ≡ some d)

@@ -1,16 +1,14 @@
 // The book as bytes: sections, reading and writing.
 #![tactic(auto)]
 
-ghost use Rattle.std.specs.Prelude.{◌≡◌, ◌||◌, ◌++◌, ◌+◌, ◌*◌, ◌≤◌, ◌<◌, eqb, length, take, get_or};
+ghost use Rattle.std.specs.Prelude.{◌≡◌, ◌++◌, ◌+◌, ◌≤◌, ◌<◌, length};
 ghost use Rattle.rows.specs.Number.{stored};
 ghost use Rattle.sets.specs.Words.{bytes, set_in};
-ghost use Rattle.book.specs.Ready.{Whole, Loadable, Savable, Judgeable, Counted};
-ghost use Rattle.book.specs.Parts.{part_of};
 ghost use Rattle.sound.specs.Check.{unless};
+ghost use Rattle.book.specs.Ready.{Whole, Loadable, Savable, Judgeable, Counted, PartOf};
 ghost use Rattle.rules.specs.Tests.{first_rule};
 ghost use Rattle.rules.specs.Sound.{rules};
 ghost use Rattle.rules.specs.Calls.{section_call, read_call, write_call, part, loading, writing};
-ghost use Rattle.theorems.proofs.ByteLaws.{TableBytes};
 ghost use Rattle.rules.specs.Bytes.{Bytes, fault, rule_fault, place_of, tables_of, tables_mut, SameTables, version_in, fore, leavers_in, head_in, set_row, header, counts, start, sections, laid, read, book_in, write, left_by, header_bytes, known};
 
 use rows::Number;
@@ -24,6 +22,9 @@ use sound::{check, long_enough};
 
 // The bytes of the header: RULES 9.2.
 pub const HEADER: usize = 17;
+
+// The bytes that a book begins with.
+const MARK: [u8; 3] = [0x54, 0x4B, 0x42];
 
 // The version that is written.
 const NEWEST: u16 = 2;
@@ -47,6 +48,7 @@ fn known(version: u16) -> bool
 }
 
 // Where the sections of a version start: version 1 has no set of leavers.
+#[tactic(auto, unfolding(rules::specs::Bytes::fore))]
 fn fore(version: u16) -> usize
     ensures { result ≡ fore version }
 {
@@ -72,21 +74,14 @@ pub fn header_in(bytes: &[u8], leavers: Users) -> Head
     requires { header_bytes ≤ length bytes.now }
     ensures { result ≡ left_by leavers (head_in bytes.now) }
 {
-    let mode = Mode(bytes[5] as u16);
-    let users = Joined::new(bytes[6] as u16);
-    let resources = Resources::new(u16::get(bytes, 7));
-    let inner_vertices = InnerVertices::new(u16::get(bytes, 9));
-    let inner_tokens = InnerTokens::new(u16::get(bytes, 11));
-    let outer_vertices = OuterVertices::new(u16::get(bytes, 13));
-    let outer_tokens = OuterTokens::new(u16::get(bytes, 15));
     Head {
-        mode,
-        users,
-        resources,
-        inner_vertices,
-        inner_tokens,
-        outer_vertices,
-        outer_tokens,
+        mode: Mode(bytes[5] as u16),
+        users: Joined::new(bytes[6] as u16),
+        resources: Resources::new(u16::get(bytes, 7)),
+        inner_vertices: InnerVertices::new(u16::get(bytes, 9)),
+        inner_tokens: InnerTokens::new(u16::get(bytes, 11)),
+        outer_vertices: OuterVertices::new(u16::get(bytes, 13)),
+        outer_tokens: OuterTokens::new(u16::get(bytes, 15)),
         leavers,
     }
 }
@@ -96,8 +91,17 @@ pub fn head_in(bytes: &[u8]) -> Head
     requires { fore (version_in bytes.now) ≤ length bytes.now }
     ensures { result ≡ head_in bytes.now }
 {
-    let leavers = leavers_in(bytes);
-    header_in(bytes, leavers)
+    header_in(bytes, leavers_in(bytes))
+}
+
+// Bytes into a buffer, from `at` on. A loop: with `copy_from_slice` a write of a large book took a tenth longer.
+fn put(from: &[u8], buffer: &mut [u8], at: usize)
+    requires { at + length from.now ≤ length buffer.old }
+    ensures { buffer.new ≡ stored at from.now buffer.old }
+{
+    for i in 0..from.len() {
+        buffer[at + i] = from[i];
+    }
 }
 
 // What stands before the sections: the header and the set of leavers.
@@ -105,9 +109,7 @@ fn put_front(buffer: &mut [u8], h: Head)
     requires { (header_bytes + bytes ≤ length buffer.old) × (h.mode.0 < 256) × (h.users.0 < 256) }
     ensures { buffer.new ≡ stored 0 (header h ++ set_row (set_in h.leavers)) buffer.old }
 {
-    buffer[0] = 0x54;
-    buffer[1] = 0x4B;
-    buffer[2] = 0x42;
+    put(&MARK, buffer, 0);
     NEWEST.put(buffer, 3);
     buffer[5] = h.mode.0 as u8;
     buffer[6] = h.users.0 as u8;
@@ -119,19 +121,18 @@ fn put_front(buffer: &mut [u8], h: Head)
     h.leavers.put(buffer, HEADER);
 }
 
-// How many rows section k has. (A section goes by its number, as in a call of `section`.)
+// How many rows each section has, by the section's number (RULES 9.3), which a call of `section` gives.
 #[tactic(auto, unfolding(rules::specs::Bytes::counts))]
-fn count_of(h: Head, k: usize) -> usize
-    ensures { result ≡ get_or (counts h) k 0 }
+fn counts(h: Head) -> [usize; 5]
+    ensures { result ≡ counts h }
 {
-    match k {
-        0 => h.inner_vertices.0 as usize,
-        1 => h.inner_tokens.0 as usize,
-        2 => h.outer_vertices.0 as usize,
-        3 => h.outer_tokens.0 as usize,
-        4 => h.resources.0 as usize,
-        _ => 0,
-    }
+    [
+        h.inner_vertices.0 as usize,
+        h.inner_tokens.0 as usize,
+        h.outer_vertices.0 as usize,
+        h.outer_tokens.0 as usize,
+        h.resources.0 as usize,
+    ]
 }
 
 // Where section k of a version starts; 5 is the end.
@@ -139,23 +140,16 @@ pub fn start_of(version: u16, h: Head, k: usize) -> usize
     requires { k ≤ 5 }
     ensures { result ≡ start version h k }
 {
-    let mut at: usize = fore(version);
+    let counts = counts(h);
+    let mut at = fore(version);
     for i in 0..k {
-        at += count_of(h, i) * WIDTHS[i];
+        at += counts[i] * WIDTHS[i];
     }
     at
 }
 
-// Bytes over others, from `at` on.
-fn put(bytes: &[u8], buffer: &mut [u8], at: usize)
-    requires { at + length bytes.now ≤ length buffer.old }
-    ensures { buffer.new ≡ stored at bytes.now buffer.old }
-{
-    buffer[at..at + bytes.len()].copy_from_slice(bytes);
-}
-
-// The five sections of bytes of the exact length.
-fn sections_of(bytes: &[u8], version: u16, h: Head) -> Tables<'_>
+// The five sections of bytes of their exact length.
+fn sections(bytes: &[u8], version: u16, h: Head) -> Tables<'_>
     requires { Whole bytes.now version h }
     ensures { tables_of result ≡ sections bytes.now }
 {
@@ -179,7 +173,7 @@ fn load(bytes: &[u8], version: u16, h: Head, t: &mut TablesMut<'_>)
     ensures same { SameTables t.old t.new }
     ensures value { tables_mut t.new ≡ laid (read bytes.now) (tables_mut t.old) }
 {
-    let s = sections_of(bytes, version, h);
+    let s = sections(bytes, version, h);
     put(s.inner_vertices, t.inner_vertices, 0);
     put(s.inner_tokens, t.inner_tokens, 0);
     put(s.outer_vertices, t.outer_vertices, 0);
@@ -192,22 +186,16 @@ fn is_bytes(table: &[u8])
     ensures { Bytes table.now }
 {}
 
-// The same of five tables, which their type does not say.
-fn are_bytes(t: &Tables<'_>)
-    ensures { TableBytes (tables_of t.now) }
+// Header, set of leavers and sections, one after the other.
+fn save(h: Head, t: &Tables<'_>, buffer: &mut [u8])
+    requires { Savable h (tables_of t.now) buffer.old }
+    ensures { buffer.new ≡ stored 0 (write (book_in h (tables_of t.now))) buffer.old }
 {
     is_bytes(t.inner_vertices);
     is_bytes(t.inner_tokens);
     is_bytes(t.outer_vertices);
     is_bytes(t.outer_tokens);
     is_bytes(t.resources);
-}
-
-// Header, set of leavers and sections, one after the other.
-fn save(h: Head, t: &Tables<'_>, buffer: &mut [u8])
-    requires { Savable h (tables_of t.now) buffer.old }
-    ensures { buffer.new ≡ stored 0 (write (book_in h (tables_of t.now))) buffer.old }
-{
     put_front(buffer, h);
     let z = start_of(NEWEST, h, 0);
     let a = start_of(NEWEST, h, 1);
@@ -215,7 +203,6 @@ fn save(h: Head, t: &Tables<'_>, buffer: &mut [u8])
     let c = start_of(NEWEST, h, 3);
     let d = start_of(NEWEST, h, 4);
     let end = start_of(NEWEST, h, 5);
-    are_bytes(t);
     put(&t.inner_vertices[..a - z], buffer, z);
     put(&t.inner_tokens[..b - a], buffer, a);
     put(&t.outer_vertices[..c - b], buffer, b);
@@ -240,9 +227,9 @@ fn rule_fault(bytes: &[u8], version: u16, h: Head) -> Result<(), Fault>
     requires { Judgeable bytes.now version h }
     ensures { result ≡ unless (rule_fault version h (first_rule (rules (read bytes.now)))) }
 {
-    match first_rule(h, &sections_of(bytes, version, h)) {
+    match first_rule(h, &sections(bytes, version, h)) {
         Ok(()) => Ok(()),
-        Err((l, s)) => Err(Fault::Rule(l, s, place_of(version, h, s))),
+        Err((rule, spot)) => Err(Fault::Rule(rule, spot, place_of(version, h, spot))),
     }
 }
 
@@ -253,7 +240,7 @@ pub fn first_fault(bytes: &[u8]) -> Result<(), Fault>
     if bytes.len() < HEADER {
         return Err(Fault::Length(bytes.len()));
     }
-    if bytes[0] != 0x54 || bytes[1] != 0x4B || bytes[2] != 0x42 {
+    if !bytes.starts_with(&MARK) {
         return Err(Fault::Mark);
     }
     let version = version_in(bytes);
@@ -274,9 +261,9 @@ pub fn first_fault(bytes: &[u8]) -> Result<(), Fault>
     rule_fault(bytes, version, head_in(bytes))
 }
 
-// Section k of a book.
-fn section_of(bytes: &[u8], k: usize) -> Result<&[u8], Denial>
-    ensures { part_of result ≡ section_call bytes.now k }
+// A section of a book, "a part of the very bytes that were lent" (RULES 9.8).
+fn part_of(bytes: &[u8], k: usize) -> Result<&[u8], Denial>
+    ensures { PartOf bytes.now k result }
 {
     first_fault(bytes)?;
     if k >= WIDTHS.len() {
@@ -289,20 +276,20 @@ fn section_of(bytes: &[u8], k: usize) -> Result<&[u8], Denial>
     Ok(&bytes[from..to])
 }
 
-// A section of a book, "a part of the very bytes that were lent" (RULES 9.8); the refusal's number and place, or 0 and 0, go to the cells, as in C.
+// The same as C asks for it: the refusal's number and place, or 0 and 0, go to the cells.
 pub fn section<'a>(bytes: &'a [u8], k: usize, cell: &mut u16, place: &mut usize) -> &'a [u8]
     ensures { part result.now cell.new place.new ≡ section_call bytes.now k }
 {
-    match section_of(bytes, k) {
-        Ok(s) => {
+    match part_of(bytes, k) {
+        Ok(part) => {
             *cell = 0;
             *place = 0;
-            s
+            part
         }
         Err(d) => {
             *cell = d.number();
             *place = d.place();
-            &bytes[0..0]
+            &bytes[..0]
         }
     }
 }
@@ -315,7 +302,7 @@ pub fn read(bytes: &[u8], t: &mut TablesMut<'_>) -> Result<Head, Denial>
     if !long_enough(&t.read()) {
         return Err(Denial::Refused(Refusal::ShortTable));
     }
-    first_fault(bytes)?;
+    first_fault(bytes)?; // before anything is laid
     let h = head_in(bytes);
     load(bytes, version_in(bytes), h, t);
     Ok(h)

@@ -1,18 +1,9 @@
 -- `book::header_in` meets its contract. Assumes nothing.
-use Prim.Native.Nat.{ℕ, ◌<◌}
-use mathlib.Core.Path.{◌≡◌, sym, ◌∙◌}
-use native.Mathlib.Omega.{arith}
-use lib.ListN.{get_or}
+use Rattle.std.proofs.Common.{ℕ, ◌≡◌, ◌<◌, ◌∙◌, sym, get_or, arith}
 use Rattle.rows.specs.Number.{cell}
 use Rattle.rows.proofs.Laws.{cell-one}
 use Rattle.rules.specs.Bytes.{head, head_in, left_by}
 use Rattle.book.proofs.header_in.Goals as goal
-
-pub overflow_cast-mode : goal.overflow_cast-mode
-overflow_cast-mode c = omega (arith, c.type_inv.bytes 5)
-
-pub overflow_cast-bytes : goal.overflow_cast-bytes
-overflow_cast-bytes c = omega (arith, c.type_inv.bytes 6)
 
 pub returns : goal.returns
 unfolding head_in
@@ -22,10 +13,10 @@ returns c =
     left_by c.args.leavers
     (head
     (one 5 (omega arith) i)
-    ((c.new-users.ensures ∙ one 6 (omega arith)) i)
-    ((c.new-resources.ensures ∙ c.get.ensures) i)
-    ((c.new-inner_vertices.ensures ∙ c.get-2.ensures) i)
-    ((c.new-inner_tokens.ensures ∙ c.get-3.ensures) i)
-    ((c.new-outer_vertices.ensures ∙ c.get-4.ensures) i)
-    ((c.new-outer_tokens.ensures ∙ c.get-5.ensures) i)
+    ((c.new.ensures ∙ one 6 (omega arith)) i)
+    ((c.new-2.ensures ∙ c.get.ensures) i)
+    ((c.new-3.ensures ∙ c.get-2.ensures) i)
+    ((c.new-4.ensures ∙ c.get-3.ensures) i)
+    ((c.new-5.ensures ∙ c.get-4.ensures) i)
+    ((c.new-6.ensures ∙ c.get-5.ensures) i)
     0)

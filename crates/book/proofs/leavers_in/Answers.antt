@@ -1,6 +1,5 @@
 -- `book::leavers_in` meets its contract. Assumes nothing.
-use mathlib.Core.Path.{◌∙◌}
-use native.Mathlib.Omega.{arith}
+use Rattle.std.proofs.Common.{◌∙◌, arith}
 use Rattle.rules.specs.Bytes.{version_in}
 use Rattle.book.proofs.Laws.{fore-within, fore-later, none_left, some_left}
 use Rattle.book.proofs.leavers_in.Goals as goal

@@ -1,4 +1,5 @@
 -- `apply::grant::apply_grant` meets its contract. Assumes nothing.
+use borrow.Author.Rules.{rules}
 use borrow.Author.Tests.{not-true, not-false}
 use Rattle.apply.proofs.ApplyLaws.{known}
 use Rattle.apply.proofs.GrantSteps.{grant-there, grant-user, grant-let-in, grant-group, grant-settle, grant-count, grant-done}
@@ -14,36 +15,38 @@ with-list-requires c = grant-user (known c.requires.accepted)
 pub relist-requires : goal.relist-requires
 relist-requires c = grant-there (known c.requires.accepted)
 
-pub lock_waiting-a-requires : goal.lock_waiting-a-requires
-lock_waiting-a-requires c = grant-group (known c.requires.accepted) c.requires.p_value c.row_of-x.ensures c.with-list.ensures c.relist.ensures
+pub lock_waiting-requires : goal.lock_waiting-requires
+lock_waiting-requires c = grant-group (known c.requires.accepted) c.requires.p_value c.row_of-x.ensures c.with-list.ensures c.relist.ensures
 
-pub settle-b-requires : goal.settle-b-requires
-settle-b-requires c =
-    grant-settle (known c.requires.accepted) c.requires.p_value c.row_of-x.ensures c.with-list.ensures c.relist.ensures c.lock_waiting-a.ensures.works
+pub settle-requires : goal.settle-requires
+settle-requires c =
+    grant-settle (known c.requires.accepted) c.requires.p_value c.row_of-x.ensures c.with-list.ensures c.relist.ensures c.lock_waiting.ensures.works
 
 pub answer-requires : goal.answer-requires
 answer-requires c =
-    grant-count (known c.requires.accepted) c.requires.p_value c.row_of-x.ensures c.with-list.ensures c.relist.ensures c.lock_waiting-a.ensures.works
-    c.settle-b.ensures.works (let-in-none _ _ (not-true _ c.if-not-p.true))
+    grant-count (known c.requires.accepted) c.requires.p_value c.row_of-x.ensures c.with-list.ensures c.relist.ensures c.lock_waiting.ensures.works
+    c.settle.ensures.works (let-in-none _ _ (not-true _ c.if-not-p.true))
 
 pub returns-then-not-p-clause-value : goal.returns-then-not-p-clause-value
 returns-then-not-p-clause-value c =
-    rw c.answer.ensures.value
-    (grant-done (known c.requires.accepted) c.requires.p_value c.row_of-x.ensures c.with-list.ensures c.relist.ensures c.lock_waiting-a.ensures.works
-    c.settle-b.ensures.works (let-in-none _ _ (not-true _ c.if-not-p.true)) c.answer.ensures.bytes)
+    let given =
+    grant-done (known c.requires.accepted) c.requires.p_value c.row_of-x.ensures c.with-list.ensures c.relist.ensures c.lock_waiting.ensures.works
+    c.settle.ensures.works (let-in-none _ _ (not-true _ c.if-not-p.true)) c.answer.ensures.bytes in
+    search rules
 
-pub let_in-c-requires : goal.let_in-c-requires
-let_in-c-requires c =
-    grant-let-in (known c.requires.accepted) c.requires.p_value c.row_of-x.ensures c.with-list.ensures c.relist.ensures c.lock_waiting-a.ensures.works
-    c.settle-b.ensures.works (not-false _ c.if-not-p.false)
+pub let_in-requires : goal.let_in-requires
+let_in-requires c =
+    grant-let-in (known c.requires.accepted) c.requires.p_value c.row_of-x.ensures c.with-list.ensures c.relist.ensures c.lock_waiting.ensures.works
+    c.settle.ensures.works (not-false _ c.if-not-p.false)
 
 pub answer-requires-2 : goal.answer-requires-2
 answer-requires-2 c =
-    grant-count (known c.requires.accepted) c.requires.p_value c.row_of-x.ensures c.with-list.ensures c.relist.ensures c.lock_waiting-a.ensures.works
-    c.settle-b.ensures.works (let-in-one _ _ (not-false _ c.if-not-p.false) c.let_in-c.ensures.works)
+    grant-count (known c.requires.accepted) c.requires.p_value c.row_of-x.ensures c.with-list.ensures c.relist.ensures c.lock_waiting.ensures.works
+    c.settle.ensures.works (let-in-one _ _ (not-false _ c.if-not-p.false) c.let_in.ensures.works)
 
 pub returns-clause-value : goal.returns-clause-value
 returns-clause-value c =
-    rw c.answer-2.ensures.value
-    (grant-done (known c.requires.accepted) c.requires.p_value c.row_of-x.ensures c.with-list.ensures c.relist.ensures c.lock_waiting-a.ensures.works
-    c.settle-b.ensures.works (let-in-one _ _ (not-false _ c.if-not-p.false) c.let_in-c.ensures.works) c.answer-2.ensures.bytes)
+    let given =
+    grant-done (known c.requires.accepted) c.requires.p_value c.row_of-x.ensures c.with-list.ensures c.relist.ensures c.lock_waiting.ensures.works
+    c.settle.ensures.works (let-in-one _ _ (not-false _ c.if-not-p.false) c.let_in.ensures.works) c.answer-2.ensures.bytes in
+    search rules

@@ -8,12 +8,12 @@ use Rattle.apply.proofs.leave.apply_leave.Goals as goal
 pub loop-r-init : goal.loop-r-init
 loop-r-init c = record { same = search rules; works = leave_none (known c.requires) }
 
-pub strike-a-requires : goal.strike-a-requires
-strike-a-requires c = leave_room (known c.requires) c.loop-r.invariant.works (omega arith)
+pub strike-requires : goal.strike-requires
+strike-requires c = leave_room (known c.requires) c.loop-r.invariant.works (omega arith)
 
 pub loop-r-preserved : goal.loop-r-preserved
 loop-r-preserved c =
-    record { same = search rules; works = leave-next (known c.requires) c.loop-r.invariant.works (omega arith) c.strike-a.ensures.works }
+    record { same = search rules; works = leave-next (known c.requires) c.loop-r.invariant.works (omega arith) c.strike.ensures.works }
 
 pub with-leavers-requires : goal.with-leavers-requires
 with-leavers-requires c = omega (arith, leave-user (known c.requires))
@@ -23,5 +23,5 @@ answer-requires c = leave-count (known c.requires) c.loop-r.invariant.works (ome
 
 pub returns-clause-value : goal.returns-clause-value
 returns-clause-value c =
-    rw c.answer.ensures.value
-    (leave-done (known c.requires) c.loop-r.invariant.works (omega arith) c.with-leavers.ensures c.answer.ensures.bytes)
+    let given = leave-done (known c.requires) c.loop-r.invariant.works (omega arith) c.with-leavers.ensures c.answer.ensures.bytes in
+    search rules

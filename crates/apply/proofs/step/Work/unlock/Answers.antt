@@ -1,6 +1,6 @@
--- `apply::step::unlock` meets its contract. Assumes nothing.
+-- `apply::step::Work::unlock` meets its contract. Assumes nothing.
 use Rattle.apply.proofs.WorksLaws.{unlock-none, unlock-relocked}
-use Rattle.apply.proofs.step.unlock.Goals as goal
+use Rattle.apply.proofs.step.Work.unlock.Goals as goal
 
 pub returns-then-outer-eq-NONE-clause-works : goal.returns-then-outer-eq-NONE-clause-works
 returns-then-outer-eq-NONE-clause-works c = unlock-none _ c.if-outer-eq-NONE.true

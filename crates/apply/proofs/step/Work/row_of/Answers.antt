@@ -1,7 +1,7 @@
--- `apply::step::row_of` meets its contract. Assumes nothing.
+-- `apply::step::Work::row_of` meets its contract. Assumes nothing.
 use mathlib.Core.Path.{◌∙◌}
 use Rattle.apply.proofs.WorksLaws.{row-in}
-use Rattle.apply.proofs.step.row_of.Goals as goal
+use Rattle.apply.proofs.step.Work.row_of.Goals as goal
 
 pub returns : goal.returns
 returns c = c.resource_in.ensures ∙ row-in _ _ _

@@ -1,8 +1,8 @@
--- `apply::grant::let_in` meets its contract. Assumes nothing.
+-- `apply::step::Work::let_in` meets its contract. Assumes nothing.
 use mathlib.Core.Path.{ap}
 use Rattle.rules.specs.Bytes.{Tables}
 use Rattle.apply.proofs.GrantWorks.{works-let-in, own_at, own-found}
-use Rattle.apply.proofs.grant.let_in.Goals as goal
+use Rattle.apply.proofs.step.Work.let_in.Goals as goal
 
 pub returns-in_default-clause-works : goal.returns-in_default-clause-works
 returns-in_default-clause-works c =

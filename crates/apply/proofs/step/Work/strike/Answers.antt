@@ -1,7 +1,7 @@
--- `apply::step::strike` meets its contract. Assumes nothing.
+-- `apply::step::Work::strike` meets its contract. Assumes nothing.
 use mathlib.Core.Path.{sym, ◌∙◌}
 use Rattle.apply.proofs.RevokeLaws.{strike-out, strike-lock, strike-in}
-use Rattle.apply.proofs.step.strike.Goals as goal
+use Rattle.apply.proofs.step.Work.strike.Goals as goal
 
 pub returns-then-not-has-clause-works : goal.returns-then-not-has-clause-works
 returns-then-not-has-clause-works c = strike-out c.requires c.row_of-x.ensures c.has.ensures c.if-not-has.true

@@ -1,9 +1,0 @@
--- `apply::step::settle` meets its contract. Assumes nothing.
-use Rattle.apply.proofs.WorksLaws.{settle-free, settle-lock}
-use Rattle.apply.proofs.step.settle.Goals as goal
-
-pub returns-then-free-clause-works : goal.returns-then-free-clause-works
-returns-then-free-clause-works c = settle-free _ _ _ _ c.if-free.true c.unlock.ensures.works
-
-pub returns-clause-works : goal.returns-clause-works
-returns-clause-works c = settle-lock _ _ _ _ c.if-free.false c.lock_with.ensures.works
