@@ -1,9 +1,11 @@
 -- A request at work, as the definitions on heads and tables see it.
 -- Assumes nothing.
-use Rattle.std.specs.Prelude.{◌≡◌, length}
+use Rattle.std.specs.Prelude.{ℕ, ◌≡◌, List, length}
+use Rattle.std.proofs.Common.{MutBor}
 use Rattle.rules.specs.Book.{Book}
 use Rattle.rules.specs.Requests.{Done}
 use Rattle.rules.specs.Bytes.{Tables, tables_mut, book_in, SameTables}
+use Rattle.rules.specs.declared.BookTables.{BookTables}
 use Rattle.apply.specs.Apply.{Works}
 use Rattle.apply.specs.declared.step.Work.{Work}
 
@@ -24,3 +26,8 @@ pub record SameWork (v w : Work) : Type 0 where
   pub orders : w.orders.ghost_name ≡ v.orders.ghost_name
   pub orders_length : length w.orders.now ≡ length v.orders.now
   pub same : SameTables v.tables.now w.tables.now
+
+-- the inner layer's tables hold what they held
+pub record SameInner (t s : BookTables (MutBor (List ℕ))) : Type 0 where
+  pub vertices : s.inner_vertices.now ≡ t.inner_vertices.now
+  pub tokens : s.inner_tokens.now ≡ t.inner_tokens.now

@@ -4,6 +4,7 @@ ghost use Rattle.rules.specs.Bytes.{tables_mut, SameTables};
 ghost use Rattle.rules.specs.Refusals.{leaves};
 ghost use Rattle.rules.specs.Calls.{change};
 ghost use Rattle.apply.specs.Apply.{Accepted, applied};
+ghost use Rattle.apply.specs.Work.{SameInner};
 
 use crate::step::Work;
 use rules::{Applied, Head, Resource, TablesMut};
@@ -12,6 +13,7 @@ use sets::User;
 pub fn apply_leave(h: Head, t: &mut TablesMut<'_>, orders: &mut [u16], u: User) -> Applied
     requires { Accepted (leaves u.0) h (tables_mut t.old) orders.old }
     ensures same { SameTables t.old t.new }
+    ensures inner { SameInner t.old t.new }
     ensures value { applied result (tables_mut t.new) orders.new ≡ change (leaves u.0) h (tables_mut t.old) orders.old }
 {
     let mut w = Work {
