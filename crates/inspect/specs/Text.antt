@@ -15,7 +15,7 @@ use Rattle.rules.specs.declared.Fault.{Fault}
 use Rattle.rules.specs.declared.Fault.TheVariants.{Mark, Version, Mode, Count, Length, Rule}
 use Rattle.lines.specs.Text.{bytes}
 use Rattle.lines.specs.Answer.{numeral, Puts}
-use Rattle.inspect.specs.Input.{FrontOf, AllCame}
+use Rattle.inspect.specs.Input.{Left, FrontOf, AllCame}
 
 -- ---- a sound book: "nine lines, `sound` and the head"
 
@@ -151,8 +151,8 @@ Answers front total out end now = (came : List ℕ) → FrontOf front total came
 
 -- ---- the program: what it writes out is the text for all that came, whose front is in the input buffer
 
-pub record Told (input : List ℕ) (end : ℕ) (out : List ℕ) : Type 0 where
+pub record Told (input : List ℕ) (end : ℕ) (out : List ℕ) (left rest : Left) : Type 0 where
   pub total : ℕ
-  pub all : AllCame total input
+  pub all : AllCame total input left rest
   pub within : end ≤ length out
-  pub text : take end out ≡ check_text all.came
+  pub text : take end out ≡ check_text all.so_far.came

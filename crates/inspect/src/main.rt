@@ -19,15 +19,15 @@ use console::{Console, zeros};
 use input::read_all;
 use memory::{INPUT, OUTPUT};
 use std::io;
-use std::io::Stdin;
+use std::io::Read;
 
 // Reads the input and puts the answer into the output buffer: where its text ends.
-fn check(stdin: Stdin, input: &mut [u8], out: &mut [u8]) -> io::Result<usize>
+fn check<R: Read>(reader: &mut R, input: &mut [u8], out: &mut [u8]) -> io::Result<usize>
     requires longest_value { longest + 1 ≡ length input.old }
     requires in_bounds { 512 ≤ length out.old }
-    ensures { IfOk result (λ end. Told input.new end out.new) }
+    ensures { IfOk result (λ end. Told input.new end out.new (R.remaining reader.old) (R.remaining reader.new)) }
 {
-    let total = read_all(stdin, input)?;
+    let total = read_all(reader, input)?;
     let kept = total.min(input.len());
     Ok(put_check(&input[..kept], total, out))
 }
@@ -40,7 +40,8 @@ fn main(rt: HostRuntime) {
     };
     let mut input: [u8; INPUT] = zeros(0);
     let mut out: [u8; OUTPUT] = zeros(0);
-    match check(console.stdin, &mut input, &mut out) {
+    let mut stdin = console.stdin;
+    match check(&mut stdin, &mut input, &mut out) {
         Ok(end) => {
             let _ = console.write_out(&out[..end]);
         }
