@@ -25,7 +25,8 @@ pub struct Unread {
     pub ended: bool,
 }
 
-// Where the first newline stands.
+// Where the first newline stands. A call, since the loop takes an instruction more for each byte where it is built into `read_block`.
+#[inline(never)]
 pub fn line_end(stretch: &[u8]) -> Option<usize>
     ensures { result ≡ position newline stretch.now }
 {
