@@ -108,7 +108,7 @@ module _ {h : Head} {t : Tables} {list : List ℕ} {u : ℕ} (k : Known (leaves 
     long : length l' ≡ length list
     long = works-length (omega (arith, told, (to-fits u b k.sound' i within).2)) w
 
-    pub leave_room : StrikeRoom a.head t' l' i u a.at
+    pub leave_room : StrikeRoom a.head t'.outer_vertices t'.outer_tokens t'.resources l' i u a.at
     unfolding work ◌then◌
     leave_room =
         strike-allowed a.head t' l' i u a.at locks there

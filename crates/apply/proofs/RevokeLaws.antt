@@ -13,7 +13,7 @@ use Rattle.rules.specs.Book.{Book, Resource, resource, with_list, with_resources
 use Rattle.rules.specs.Sound.{locked, max_tokens}
 use Rattle.rules.specs.Requests.{Done, done, ◌then◌, vertex_orders, revoke}
 use Rattle.rules.specs.Refusals.{revokes, work}
-use Rattle.rules.specs.Bytes.{Tables, book_in, resources_in}
+use Rattle.rules.specs.Bytes.{Tables, tables, book_in, resources_in}
 use Rattle.rules.specs.Calls.{change}
 use Rattle.rules.specs.declared.Head.{Head}
 use Rattle.theorems.specs.Plan.{lock_with, revoked_list}
@@ -32,29 +32,34 @@ use Rattle.apply.proofs.ApplyLaws.{Known, lock-allowed}
 
 -- ---- the step, as the code has it: x is the row of r, s its list without u
 
-module _ {h : Head} {t : Tables} {list : List ℕ} {r u at : ℕ} (room : StrikeRoom h t list r u at) {x : Resource} (read : x ≡ resource (book_in h t) r) where
-  pub strike-out : {z : Bool} → z ≡ has x.list u → z ≡ false → Works (strike_by r u (book_in h t)) h t list at (step h at) t list
+module _ {h : Head} {ov ot rs list : List ℕ} {r u at : ℕ} (room : StrikeRoom h ov ot rs list r u at) {x : Resource}
+    (read : (iv it : List ℕ) → x ≡ resource (book_in h (tables iv it ov ot rs)) r) where
+  pub strike-out : {z : Bool} (iv it : List ℕ) → z ≡ has x.list u → z ≡ false
+      → let t = tables iv it ov ot rs in
+      Works (strike_by r u (book_in h t)) h t list at (step h at) t list
   unfolding strike_by
-  strike-out q f = rw (ap (λ (y : Resource). has y.list u) (sym read) ∙ sym q ∙ f) works-none
+  strike-out iv it q f = rw (ap (λ (y : Resource). has y.list u) (sym (read iv it)) ∙ sym q ∙ f) works-none
 
-  module _ {s : ℕ} {rs : List ℕ} (on : has x.list u ≡ true) (new : s ≡ minus x.list (single u))
-      (put : Resources h.resources.0 (listed r s (resources_in h.resources.0 t.resources)) t.resources rs) where
-    pub strike-lock : LockRoom h (with_rows t rs) list r s at
+  module _ {s : ℕ} {rs' : List ℕ} (on : has x.list u ≡ true) (new : s ≡ minus x.list (single u))
+      (put : Resources h.resources.0 (listed r s (resources_in h.resources.0 rs)) rs rs') where
+    pub strike-lock : LockRoom h ov ot rs' list r s at
     strike-lock =
-        let x-is : x ≡ row (resources_in h.resources.0 t.resources) r = read ∙ sym (row-in h t r) in
+        let x-is : x ≡ row (resources_in h.resources.0 rs) r = read [] [] ∙ sym (row-in h (tables [] [] ov ot rs) r) in
         let k = room.lock (ap (λ (y : Resource). has y.list u) (sym x-is) ∙ on) in
-        subst (λ (z : ℕ). LockRoom h (with_rows t rs) list r z at) (sym (new ∙ ap (λ (y : Resource). minus y.list (single u)) x-is))
+        subst (λ (z : ℕ). LockRoom h ov ot rs' list r z at) (sym (new ∙ ap (λ (y : Resource). minus y.list (single u)) x-is))
         (record { fits = k.fits; rows = omega (arith, k.rows, put.same); there = k.there; orders = k.orders; tokens< = k.tokens< })
 
-    pub strike-in : {a : Step} {w : Tables} {l' : List ℕ} → Works (lock_with r s (book_in h (with_rows t rs))) h (with_rows t rs) list at a w l'
-        → Works (strike_by r u (book_in h t)) h t list at a w l'
+    pub strike-in : {a : Step} {w : Tables} {l' : List ℕ} (iv it : List ℕ)
+        → let t = tables iv it ov ot rs in
+        Works (lock_with r s (book_in h (with_rows t rs'))) h (with_rows t rs') list at a w l' → Works (strike_by r u (book_in h t)) h t list at a w l'
     unfolding strike_by
-    strike-in {a} w =
-        let c = book_in h (with_rows t rs) in
-        let set : s ≡ revoked_list r u (book_in h t) = new ∙ ap (λ (y : Resource). minus y.list (single u)) read in
+    strike-in {a} iv it w =
+        let t = tables iv it ov ot rs in
+        let c = book_in h (with_rows t rs') in
+        let set : s ≡ revoked_list r u (book_in h t) = new ∙ ap (λ (y : Resource). minus y.list (single u)) (read iv it) in
         let full : a.at * 3 ≤ length list =
-        omega (arith, w.next, lock-orders r s c, strike-lock.orders, ap (λ (L : Layer). length (vertex_orders 1 2 L s)) (outer-in h (with_rows t rs))) in
-        rw (ap (λ (y : Resource). has y.list u) (sym read) ∙ on, ← set)
+        omega (arith, w.next, lock-orders r s c, strike-lock.orders, ap (λ (L : Layer). length (vertex_orders 1 2 L s)) (outer-in h (with_rows t rs'))) in
+        rw (ap (λ (y : Resource). has y.list u) (sym (read iv it)) ∙ on, ← set)
         (works-next (lock_with r s) full (works-list h t list at r s put) w)
 
 -- ---- in a book where S8 holds of r
@@ -80,7 +85,7 @@ module _ (h : Head) (t : Tables) (list : List ℕ) (r u at : ℕ) (locks : locke
       → u < people
       → (has (resource c r).list u ≡ true → (length (revoke r u c).book.outer.sets ≤ max_vertices) × (length (revoke r u c).book.outer.tokens ≤ max_tokens)
       × ((at + length (revoke r u c).orders) * 3 ≤ length list))
-      → StrikeRoom h t list r u at
+      → StrikeRoom h t.outer_vertices t.outer_tokens t.resources list r u at
   strike-allowed lv lt rows user fits =
       record {
         rows = rows;
@@ -123,7 +128,7 @@ module _ {h : Head} {t : Tables} {list : List ℕ} {r u : ℕ} (k : Known (revok
   there : r < h.resources.0
   there = omega (arith, revoke-allowed.1, resources-in h t)
 
-  pub revoke-room : StrikeRoom h t list r u 0
+  pub revoke-room : StrikeRoom h t.outer_vertices t.outer_tokens t.resources list r u 0
   unfolding work
   revoke-room =
       strike-allowed h t list r u 0 locks there k.long.outer_vertices k.long.outer_tokens k.sizes'.room.resources

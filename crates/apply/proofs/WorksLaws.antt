@@ -117,6 +117,11 @@ pub then-orders : (d : Done) (f : Book → Done) → length (d then f).orders �
 unfolding ◌then◌
 then-orders d f = length-append d.orders (f d.book).orders
 
+-- the outer layer's tables and the resources as the code has them
+pub works-same : {d : Done} {h : Head} {t : Tables} {iv it ov ot rs ov' ot' rs' list l' : List ℕ} {at : ℕ} {s : Step} → ov' ≡ ov → ot' ≡ ot → rs' ≡ rs
+    → Works d h t list at s (tables iv it ov ot rs) l' → Works d h t list at s (tables iv it ov' ot' rs') l'
+works-same v t r w = rw (v, t, r) w
+
 -- a piece of work that the code names in its own terms
 pub works-on : {d e : Done} (f : Book → Done) {h : Head} {t u w : Tables} {list l1 l2 : List ℕ} {at : ℕ} {s z : Step} → (at + length (d then f).orders) * 3 ≤ length list
     → Works d h t list at s u l1 → e ≡ f d.book → Works e s.head u l1 s.at z w l2 → Works (d then f) h t list at z w l2
@@ -268,27 +273,29 @@ works-length {d} {list = list} {at = at} room p =
 
 -- ---- find or make the outer vertex for s, and re-lock r with it; l and k are the layer's shape and the head afterwards as the code has them
 
-module _ {h : Head} {t : Tables} {list : List ℕ} {r s at : ℕ} {l : Shape} {m : Made} {ov ot l1 : List ℕ} (room : LockRoom h t list r s at) (shape : l ≡ outer_shape h)
-    (made : VertexFor l s at 1 2 t.outer_tokens t.outer_vertices list m ot ov l1) where
-  vertex-made : VertexFor (outer_shape h) s at 1 2 t.outer_tokens t.outer_vertices list m ot ov l1
-  vertex-made = subst (λ (x : Shape). VertexFor x s at 1 2 t.outer_tokens t.outer_vertices list m ot ov l1) shape made
+module _ {h : Head} {ov ot rs list : List ℕ} {r s at : ℕ} {l : Shape} {m : Made} {ov' ot' l1 : List ℕ} (room : LockRoom h ov ot rs list r s at)
+    (shape : l ≡ outer_shape h) (made : VertexFor l s at 1 2 ot ov list m ot' ov' l1) where
+  vertex-made : VertexFor (outer_shape h) s at 1 2 ot ov list m ot' ov' l1
+  vertex-made = subst (λ (x : Shape). VertexFor x s at 1 2 ot ov list m ot' ov' l1) shape made
 
   pub lock-counts : (m.shape.vertices < 65536) × (m.shape.tokens < 65536)
   lock-counts =
-      let L = layer_of (outer_shape h) t.outer_tokens t.outer_vertices in
+      let L = layer_of (outer_shape h) ot ov in
       let p = vertex-made in (
-        omega (arith, p.vertices, with_vertex-vertices L s, new_vertices-one L s, layer-sets (outer_shape h) t.outer_tokens t.outer_vertices, room.fits.vertices<),
+        omega (arith, p.vertices, with_vertex-vertices L s, new_vertices-one L s, layer-sets (outer_shape h) ot ov, room.fits.vertices<),
         omega (arith, p.tokens, room.tokens<),
       )
 
-  -- v is the vertex that the code re-locks r with
-  pub works-lock : {k : Head} {v : ℕ} {rs l2 : List ℕ} → Resources h.resources.0 (locked r v (resources_in h.resources.0 t.resources)) t.resources rs
+  -- v is the vertex that the code re-locks r with; the inner layer's tables hold iv and it
+  pub works-lock : {k : Head} {v : ℕ} {rs' l2 : List ℕ} (iv it : List ℕ) → Resources h.resources.0 (locked r v (resources_in h.resources.0 rs)) rs rs'
       → l2 ≡ stored (m.at * 3) (order_of 3 r v) l1 → v ≡ m.vertex → k ≡ with_outer h m.shape
-      → Works (lock_with r s (book_in h t)) h t list at (step k (m.at + 1)) (tables t.inner_vertices t.inner_tokens ov ot rs) l2
-  works-lock {k} {v} q o is e =
+      → let t = tables iv it ov ot rs in
+      Works (lock_with r s (book_in h t)) h t list at (step k (m.at + 1)) (tables iv it ov' ot' rs') l2
+  works-lock {k} {v} iv it q o is e =
+      let t = tables iv it ov ot rs in
       let for : v ≡ vertex_for (book_in h t).outer s = is ∙ vertex-made.vertex ∙ ap (λ (L : Layer). vertex_for L s) (sym (outer-in h t)) in
       let room' : (m.at + 1) * 3 ≤ length list = omega (arith, vertex-made.next, room.orders) in
-      let two = works-relock (with_outer h m.shape) (with_outer_rows t ov ot) m.at r v q o in
+      let two = works-relock (with_outer h m.shape) (with_outer_rows t ov' ot') m.at r v q o in
       rw (e, ← for) (works-next (relock r v) room' (works-outer h t vertex-made) two)
 
 -- ---- the lock of r, which had outer vertex v: taken off, or one for its list l

@@ -1,33 +1,39 @@
 -- A request at work, as the definitions on heads and tables see it.
 -- Assumes nothing.
 use Rattle.std.specs.Prelude.{ℕ, ◌≡◌, List, length}
-use Rattle.std.proofs.Common.{MutBor}
 use Rattle.rules.specs.Book.{Book}
 use Rattle.rules.specs.Requests.{Done}
-use Rattle.rules.specs.Bytes.{Tables, tables_mut, book_in, SameTables}
-use Rattle.rules.specs.declared.BookTables.{BookTables}
-use Rattle.apply.specs.Apply.{Works}
+use Rattle.rules.specs.Bytes.{Tables, tables, book_in}
+use Rattle.apply.specs.Apply.{Step, Works}
 use Rattle.apply.specs.declared.step.Work.{Work}
 
--- what its tables hold, and the book in them
-abbrev pub held : Work → Tables
-held w = tables_mut w.tables.now
+-- how far it is
+abbrev pub step_of : Work → Step
+step_of w = record { head = w.head; at = w.at }
 
-abbrev pub book_at : Work → Book
-book_at w = book_in w.head (held w)
+-- what the tables hold where the inner layer's hold iv and it, and the book in them
+abbrev pub held : List ℕ → List ℕ → Work → Tables
+held iv it w = tables iv it w.outer_vertices.now w.outer_tokens.now w.resources.now
 
--- from v to w the work d was done
-abbrev pub Does : Done → Work → Work → Type 0
-Does d v w = Works d v.head (held v) v.orders.now v.at (record { head = w.head; at = w.at }) (held w) w.orders.now
+abbrev pub book_at : List ℕ → List ℕ → Work → Book
+book_at iv it w = book_in w.head (held iv it w)
 
--- the very same tables and list
+-- from v to w the work f of the book was done, whatever the inner layer's tables hold
+abbrev pub Does : (Book → Done) → Work → Work → Type 0
+Does f v w = (iv it : List ℕ) → Works (f (book_at iv it v)) v.head (held iv it v) v.orders.now v.at (step_of w) (held iv it w) w.orders.now
+
+-- the very same tables and list, each as long as it was
 pub record SameWork (v w : Work) : Type 0 where
-  pub tables : w.tables.ghost_name ≡ v.tables.ghost_name
+  pub outer_vertices : w.outer_vertices.ghost_name ≡ v.outer_vertices.ghost_name
+  pub outer_tokens : w.outer_tokens.ghost_name ≡ v.outer_tokens.ghost_name
+  pub resources : w.resources.ghost_name ≡ v.resources.ghost_name
   pub orders : w.orders.ghost_name ≡ v.orders.ghost_name
+  pub outer_vertices_length : length w.outer_vertices.now ≡ length v.outer_vertices.now
+  pub outer_tokens_length : length w.outer_tokens.now ≡ length v.outer_tokens.now
+  pub resources_length : length w.resources.now ≡ length v.resources.now
   pub orders_length : length w.orders.now ≡ length v.orders.now
-  pub same : SameTables v.tables.now w.tables.now
 
--- the inner layer's tables hold what they held
-pub record SameInner (t s : BookTables (MutBor (List ℕ))) : Type 0 where
-  pub vertices : s.inner_vertices.now ≡ t.inner_vertices.now
-  pub tokens : s.inner_tokens.now ≡ t.inner_tokens.now
+-- the outer layer's tables hold what they held
+pub record SameOuter (v w : Work) : Type 0 where
+  pub vertices : w.outer_vertices.now ≡ v.outer_vertices.now
+  pub tokens : w.outer_tokens.now ≡ v.outer_tokens.now

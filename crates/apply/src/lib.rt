@@ -28,16 +28,19 @@ pub mod grant;
 pub mod leave;
 pub mod step;
 
+// The inner tables are taken first, here and below: they go beside `Work`, which is lent the others.
 #[tactic(auto, using(crate::proofs::ApplyLaws::join_room))]
 pub fn apply_join(h: Head, t: &mut TablesMut<'_>, orders: &mut [u16]) -> Applied
     requires { Accepted joins h (tables_mut t.old) orders.old }
     ensures same { SameTables t.old t.new }
     ensures value { applied result (tables_mut t.new) orders.new ≡ change joins h (tables_mut t.old) orders.old }
 {
+    let inner_vertices = &mut *t.inner_vertices;
+    let inner_tokens = &mut *t.inner_tokens;
     let s = Users::only(User(h.users.0));
     let i = h.inner_vertices.0;
     let o = h.outer_vertices.0;
-    put_set(t.inner_vertices, i as usize, s);
+    put_set(inner_vertices, i as usize, s);
     put_set(t.outer_vertices, o as usize, s);
     put_order(orders, 0, OrderKind::InnerVertex as u16, i, 0);
     put_order(orders, 1, OrderKind::OuterVertex as u16, o, 0);
@@ -49,11 +52,13 @@ pub fn apply_join(h: Head, t: &mut TablesMut<'_>, orders: &mut [u16]) -> Applied
     };
     let w = Work {
         head,
-        tables: t,
+        outer_vertices: t.outer_vertices,
+        outer_tokens: t.outer_tokens,
+        resources: t.resources,
         orders,
         at: 2,
     };
-    w.answer()
+    w.answer(inner_vertices, inner_tokens)
 }
 
 // The vertex, the row, and its lock, which may be none; the order for the row comes last.
@@ -69,9 +74,11 @@ pub fn apply_insert(
     ensures same { SameTables t.old t.new }
     ensures value { applied result (tables_mut t.new) orders.new ≡ change (inserts (set_in l)) h (tables_mut t.old) orders.old }
 {
+    let inner_vertices = &mut *t.inner_vertices;
+    let inner_tokens = &mut *t.inner_tokens;
     let m = vertex_for(
-        t.inner_vertices,
-        t.inner_tokens,
+        inner_vertices,
+        inner_tokens,
         inner_shape(h),
         l,
         orders,
@@ -88,14 +95,16 @@ pub fn apply_insert(
     };
     let mut w = Work {
         head,
-        tables: t,
+        outer_vertices: t.outer_vertices,
+        outer_tokens: t.outer_tokens,
+        resources: t.resources,
         orders,
         at: m.at,
     };
     let none = OuterVertex(OuterVertex::NONE);
     w.settle(Resource(n), none, l, p.free);
     w.encrypt(Resource(n), inner);
-    w.answer()
+    w.answer(inner_vertices, inner_tokens)
 }
 
 pub fn apply_revoke(
@@ -109,14 +118,18 @@ pub fn apply_revoke(
     ensures same { SameTables t.old t.new }
     ensures value { applied result (tables_mut t.new) orders.new ≡ change (revokes r.0 u.0) h (tables_mut t.old) orders.old }
 {
+    let inner_vertices = &mut *t.inner_vertices;
+    let inner_tokens = &mut *t.inner_tokens;
     let mut w = Work {
         head: h,
-        tables: t,
+        outer_vertices: t.outer_vertices,
+        outer_tokens: t.outer_tokens,
+        resources: t.resources,
         orders,
         at: 0,
     };
     w.strike(r, u);
-    w.answer()
+    w.answer(inner_vertices, inner_tokens)
 }
 
 // Applying a request with its plan.
@@ -131,6 +144,19 @@ pub fn apply(h: Head, t: &mut TablesMut<'_>, orders: &mut [u16], q: Request, p: 
         Request::Insert(l) => apply_insert(h, t, orders, l, p),
         Request::Grant(r, u) => apply_grant(h, t, orders, r, u, p),
         Request::Revoke(r, u) => apply_revoke(h, t, orders, r, u),
-        Request::Leave(u) => apply_leave(h, t, orders, u),
+        Request::Leave(u) => {
+            let inner_vertices = &mut *t.inner_vertices;
+            let inner_tokens = &mut *t.inner_tokens;
+            apply_leave(
+                h,
+                inner_vertices,
+                inner_tokens,
+                t.outer_vertices,
+                t.outer_tokens,
+                t.resources,
+                orders,
+                u,
+            )
+        }
     }
 }

@@ -24,16 +24,16 @@ settle-requires c =
 pub encrypt-requires : goal.encrypt-requires
 encrypt-requires c =
     insert-told (known c.requires.accepted) c.inner_shape.ensures c.vertex_for-m.ensures c.with_inner.ensures c.add_resource.ensures c.requires.p_value
-    c.settle.ensures.works
+    (c.settle.ensures.works _ _)
 
 pub answer-requires : goal.answer-requires
 answer-requires c =
     insert-few (known c.requires.accepted) c.inner_shape.ensures c.vertex_for-m.ensures c.with_inner.ensures c.add_resource.ensures c.requires.p_value
-    c.settle.ensures.works c.encrypt.ensures.works
+    (c.settle.ensures.works _ _) (c.encrypt.ensures.works _ _)
 
 pub returns-clause-value : goal.returns-clause-value
 returns-clause-value c =
     let given =
     insert-done (known c.requires.accepted) c.inner_shape.ensures c.vertex_for-m.ensures c.with_inner.ensures c.add_resource.ensures c.requires.p_value
-    c.settle.ensures.works c.encrypt.ensures.works c.answer.ensures.bytes in
+    (c.settle.ensures.works _ _) (c.encrypt.ensures.works _ _) c.answer.ensures.bytes in
     search rules

@@ -8,9 +8,9 @@ pub strike-requires : goal.strike-requires
 strike-requires c = revoke-room (known c.requires)
 
 pub answer-requires : goal.answer-requires
-answer-requires c = revoke-count (known c.requires) c.strike.ensures.works
+answer-requires c = revoke-count (known c.requires) (c.strike.ensures.works _ _)
 
 pub returns-clause-value : goal.returns-clause-value
 returns-clause-value c =
-    let given = revoke-done (known c.requires) c.strike.ensures.works c.answer.ensures.bytes in
+    let given = revoke-done (known c.requires) (c.strike.ensures.works _ _) c.answer.ensures.bytes in
     search rules

@@ -6,14 +6,14 @@ use Rattle.apply.proofs.LeaveLaws.{leave-user, leave_none, leave_room, leave-nex
 use Rattle.apply.proofs.leave.apply_leave.Goals as goal
 
 pub loop-r-init : goal.loop-r-init
-loop-r-init c = record { same = search rules; inner = search rules; works = leave_none (known c.requires) }
+loop-r-init c = record { same = search rules; works = leave_none (known c.requires) }
 
 pub strike-requires : goal.strike-requires
 strike-requires c = leave_room (known c.requires) c.loop-r.invariant.works (omega arith)
 
 pub loop-r-preserved : goal.loop-r-preserved
 loop-r-preserved c =
-    record { same = search rules; inner = search rules; works = leave-next (known c.requires) c.loop-r.invariant.works (omega arith) c.strike.ensures.works }
+    record { same = search rules; works = leave-next (known c.requires) c.loop-r.invariant.works (omega arith) (c.strike.ensures.works _ _) }
 
 pub with-leavers-requires : goal.with-leavers-requires
 with-leavers-requires c = omega (arith, leave-user (known c.requires))

@@ -8,4 +8,5 @@ with_outer-self-requires c = lock-counts c.requires c.outer_shape.ensures c.vert
 
 pub returns-clause-works : goal.returns-clause-works
 returns-clause-works c =
-    works-lock c.requires c.outer_shape.ensures c.vertex_for-m.ensures c.relock.ensures.resources c.relock.ensures.orders_after refl c.with_outer-self.ensures
+    λ iv it.
+    works-lock c.requires c.outer_shape.ensures c.vertex_for-m.ensures iv it c.relock.ensures.resources c.relock.ensures.orders_after refl c.with_outer-self.ensures

@@ -4,4 +4,4 @@ use Rattle.apply.proofs.WorksLaws.{row-in}
 use Rattle.apply.proofs.step.Work.row_of.Goals as goal
 
 pub returns : goal.returns
-returns c = c.resource_in.ensures ∙ row-in _ _ _
+returns c = λ iv it. c.resource_in.ensures ∙ row-in _ _ _
