@@ -26,7 +26,7 @@ pub none-came : (input : List ℕ) (left : Left) → SoFar 0 input left left
 none-came input left = record { came = []; holds = record { front = sym (take-nil (length input)); whole = refl }; given = Consumes-nil left }
 
 -- where the buffer has room, all that came is kept
-holds-all : (total : ℕ) (input came : List ℕ) → Holds total input came → total < length input → came ≡ take total input
+pub holds-all : (total : ℕ) (input came : List ℕ) → Holds total input came → total < length input → came ≡ take total input
 holds-all total input came h room = sym (h.front ∙ take_all (length input) came (omega (arith, h.whole)))
 
 -- one read more, into what room there is

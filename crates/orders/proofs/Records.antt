@@ -43,7 +43,7 @@ pub over_none : (list : List Order) (rows : List ℕ) → list ≡ over (orders_
 unfolding over orders_in rows_of
 over_none list rows = refl
 
-over-more : (list : List Order) (rows : List ℕ) (i : ℕ) → i < length list → set (over (orders_in i rows) list) i (order_at rows i) ≡ over (orders_in (suc i) rows) list
+pub over-more : (list : List Order) (rows : List ℕ) (i : ℕ) → i < length list → set (over (orders_in i rows) list) i (order_at rows i) ≡ over (orders_in (suc i) rows) list
 unfolding over
 over-more list rows i h =
     let n = length-orders-in i rows in
