@@ -6,6 +6,7 @@ use rules::{Order, OrderKind};
 
 // A text as it stands.
 // A buffer and a place, here and below: it is lent, of a fixed length, and no String is on a heap.
+#[tactic(auto, using(crate::proofs::Putting::put_part))]
 pub fn put_text(text: &[u8], out: &mut [u8], at: usize) -> usize
     requires { at + length text.now ≤ length out.old }
     ensures { Puts text.now at out.old result out.new }
