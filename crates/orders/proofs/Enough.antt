@@ -1,8 +1,8 @@
 -- `most_orders` rows are enough for any request, so that the request on numbers answers for the records. Assumes nothing.
-use Rattle.std.specs.Prelude.{Result}
+use Rattle.std.specs.Prelude.{Result, is_ok}
 use Prim.Native.Nat.{ℕ, ◌+◌, ◌*◌, ◌≤◌}
 use mathlib.Core.Path.{◌≡◌, refl, sym, ap, ◌∙◌}
-use mathlib.Core.Bool.{Bool, true, false, cond}
+use mathlib.Core.Bool.{Bool, true, false, cond, true≢false}
 use mathlib.Core.List.{List, [], ◌∷◌, ◌++◌, append_assoc}
 use mathlib.Core.Option.{Option, some, none}
 use native.Mathlib.Omega.{arith}
@@ -144,6 +144,37 @@ pub recorded-by : (q : Request) (h : Head) (t : Tables) (rows : List ℕ) (list 
     → recording c u zs ≡ recorded q h t list
 unfolding recorded filled
 recorded-by q h t rows list e k f = record-by (refusal t (book_in h t) (length list) q) (work q (book_in h t)) t rows list e k f
+
+-- a refused one leaves the records as they were
+pub refused_by : (q : Request) (h : Head) (t : Tables) (list : List Order) → is_ok (filled q h t (length list) []).answer ≡ false
+    → recorded q h t list ≡ recording (filled q h t (length list) []).answer (filled q h t (length list) []).tables list
+unfolding recorded filled change_by recorded_by records_by
+refused_by q h t list e = go (refusal t (book_in h t) (length list) q) e
+  where
+    d : Done
+    d = work q (book_in h t)
+
+    go : (v : Option Refusal) → is_ok (change_by v d t []).answer ≡ false
+        → recorded_by v d t list ≡ recording (change_by v d t []).answer (change_by v d t []).tables list
+    go (some r) e = refl
+    go none e = absurd (true≢false e)
+
+-- what it answers, and leaves in the tables, is no matter of the numbers lent
+pub answer_by : (q : Request) (h : Head) (t : Tables) (room : ℕ) (rows : List ℕ) → (filled q h t room rows).answer ≡ (filled q h t room []).answer
+unfolding filled change_by
+answer_by q h t room rows = go (refusal t (book_in h t) room q)
+  where
+    go : (v : Option Refusal) → (change_by v (work q (book_in h t)) t rows).answer ≡ (change_by v (work q (book_in h t)) t []).answer
+    go (some r) = refl
+    go none = refl
+
+pub tables_by : (q : Request) (h : Head) (t : Tables) (room : ℕ) (rows : List ℕ) → (filled q h t room rows).tables ≡ (filled q h t room []).tables
+unfolding filled change_by
+tables_by q h t room rows = go (refusal t (book_in h t) room q)
+  where
+    go : (v : Option Refusal) → (change_by v (work q (book_in h t)) t rows).tables ≡ (change_by v (work q (book_in h t)) t []).tables
+    go (some r) = refl
+    go none = refl
 
 -- ---- among the calls of a run
 

@@ -57,6 +57,7 @@ fn fill(
 }
 
 // A request, on as many rows of orders as there are records.
+#[tactic(auto, using(crate::proofs::Enough::refused_by, crate::proofs::Enough::answer_by, crate::proofs::Enough::tables_by))]
 pub fn change(
     h: Head,
     t: &mut TablesMut<'_>,
